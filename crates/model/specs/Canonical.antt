@@ -1,0 +1,151 @@
+-- Document 01, "Merging and writing": the canonical text of a table.
+use Prim.Native.Nat.{ℕ, zero, suc, _+_, _/_, _%_}
+use Prim.Native.String.{String}
+use mathlib.Core.Bool.{Bool, true, false, cond, not, _&&_, _||_}
+use mathlib.Core.List.{List, [], _∷_, _++_}
+use lib.Dec.{eqb, ltb}
+use Rattle.model.specs.Lists.{bytes, all, those}
+use Rattle.model.specs.Codes.{isKey, isButton, motionNotify, hasMode, mappingNotify, takesModifiers}
+use Rattle.model.specs.Names.{Entry, nameOf, modifierEntries, protocolEntries}
+use Rattle.model.specs.Details.{buttonEntries, motionEntries, modeEntries, requestEntries}
+use Rattle.model.specs.Modifiers.{bits, isBit, isShiftOrLock, bit, caresFor}
+use Rattle.model.specs.Tables.{Call, Production, Table}
+use Rattle.model.specs.Asking.{bytesOf}
+use Rattle.model.specs.declared.scan.Span.{Span}
+use Rattle.model.specs.declared.events.Detail.{Detail}
+use Rattle.model.specs.declared.events.KeptEvent.{KeptEvent}
+use Rattle.model.specs.declared.names.TypeName.{TypeName}
+use Rattle.model.specs.declared.names.EventType.{EventType}
+use Rattle.model.specs.declared.names.DetailRead.{DetailRead}
+
+-- parts with a separator between each two
+unfoldable pub joinedBy : List ℕ → List (List ℕ) → List ℕ
+joinedBy sep [] = []
+joinedBy sep (p ∷ []) = p
+joinedBy sep (p ∷ q ∷ ps) = p ++ (sep ++ joinedBy sep (q ∷ ps))
+
+module _ {A : Type 0} where
+  -- what each element is written as
+  abbrev pub each : (A → List ℕ) → List A → List (List ℕ)
+  each write [] = []
+  each write (x ∷ xs) = write x ∷ each write xs
+
+-- ---- Numbers
+
+-- "lower-case hexadecimal", and decimal
+abbrev pub digit : ℕ → ℕ
+digit v = cond (ltb v 10) (48 + v) (87 + v)
+
+-- the digits of a number with no leading zero; fuel bounds how many
+unfoldable pub digitsIn : ℕ → ℕ → ℕ → List ℕ
+digitsIn base zero v = []
+digitsIn base (suc fuel) v =
+    cond (ltb v base) (digit v ∷ []) (digitsIn base fuel (v / base) ++ (digit (v % base) ∷ []))
+
+-- "keysyms as `0x` and lower-case hexadecimal": a keysym has at most eight digits
+unfoldable pub hexadecimal : ℕ → List ℕ
+hexadecimal v = bytes "0x" ++ digitsIn 16 8 v
+
+-- "other numbers in decimal": at most 255
+unfoldable pub decimal : ℕ → List ℕ
+decimal v = digitsIn 10 3 v
+
+-- ---- Modifiers
+
+-- "in the order Ctrl Shift Lock Mod1..5 Button1..5"
+abbrev pub writingOrder : List ℕ
+writingOrder = 2 ∷ 0 ∷ 1 ∷ 3 ∷ 4 ∷ 5 ∷ 6 ∷ 7 ∷ 8 ∷ 9 ∷ 10 ∷ 11 ∷ 12 ∷ []
+
+-- the long name of a modifier bit, which stands before the short one
+unfoldable pub bitName : ℕ → List ℕ
+bitName k = nameOf (isBit k) [] modifierEntries
+
+-- testable bits are 13, beside a colon 11
+abbrev pub isTestable : KeptEvent → ℕ → Bool
+isTestable e k = not (e .colon && isShiftOrLock k)
+
+-- "on codes 2..8 alone `!` (or `!:`) wherever every testable bit is asked set or clear"
+unfoldable pub writesBang : KeptEvent → Bool
+writesBang e = takesModifiers (e .code) && all (λ k. not (isTestable e k) || caresFor e k) bits
+
+-- a set bit by its name, a clear one with `~`
+abbrev pub bitText : KeptEvent → ℕ → List ℕ
+bitText e k = cond (bit k (e .set)) (bitName k) (bytes "~" ++ bitName k)
+
+-- after `!` "only set bits listed"
+abbrev pub isWrittenBit : KeptEvent → ℕ → Bool
+isWrittenBit e k = cond (writesBang e) (bit k (e .set)) (caresFor e k)
+
+-- "one blank between them"
+unfoldable pub bitsText : KeptEvent → List ℕ
+bitsText e = joinedBy (bytes " ") (each (bitText e) (those (isWrittenBit e) writingOrder))
+
+-- "nothing between `!`, `:` and the first modifier"
+unfoldable pub modifiersText : KeptEvent → List ℕ
+modifiersText e = cond (writesBang e) (bytes "!") [] ++ (cond (e .colon) (bytes ":") [] ++ bitsText e)
+
+-- ---- Types and details
+
+abbrev pub isCodeOf : ℕ → TypeName → Bool
+isCodeOf code (TypeName.Known ty) = eqb (ty .code) code
+isCodeOf code TypeName.Unknown = false
+
+-- "canonical type names"; "`<BtnMotion>` has no canonical name and keeps its own, unless a button is required set", when the
+-- clause isn't kept
+unfoldable pub typeText : KeptEvent → List ℕ
+typeText e = cond (e .clause) (bytes "BtnMotion") (nameOf (isCodeOf (e .code)) [] protocolEntries)
+
+abbrev pub isValue : ℕ → DetailRead → Bool
+isValue v (DetailRead.Value w) = eqb w v
+isValue v DetailRead.Unknown = false
+isValue v DetailRead.TooLarge = false
+isValue v DetailRead.NotBuilt = false
+
+-- "named details by name, other numbers in decimal"
+abbrev pub nameOrDecimal : List (Entry DetailRead) → ℕ → List ℕ
+nameOrDecimal entries v = nameOf (isValue v) (decimal v) entries
+
+unfoldable pub valueText : ℕ → ℕ → List ℕ
+valueText code v =
+    cond (isKey code) (hexadecimal v)
+    (cond (isButton code) (nameOrDecimal buttonEntries v)
+    (cond (eqb code motionNotify) (nameOrDecimal motionEntries v)
+    (cond (hasMode code) (nameOrDecimal modeEntries v) (nameOrDecimal requestEntries v))))
+
+abbrev pub detailText : ℕ → Detail → List ℕ
+detailText code Detail.Unspecified = []
+detailText code (Detail.Value v) = valueText code v
+
+-- a count of 1 is not written
+unfoldable pub countText : ℕ → List ℕ
+countText n = cond (ltb 1 n) (bytes "(" ++ (decimal n ++ bytes ")")) []
+
+unfoldable pub eventText : KeptEvent → List ℕ
+eventText e =
+    modifiersText e ++ (bytes "<" ++ (typeText e ++ (bytes ">" ++ (countText (e .count) ++ detailText (e .code) (e .detail)))))
+
+-- ---- Calls and productions
+
+module _ (first second : List ℕ) where
+  -- parameters are always quoted
+  unfoldable pub parameterText : Bool → Span → List ℕ
+  parameterText mark s = bytes "\"" ++ (bytesOf first second mark s ++ bytes "\"")
+
+  unfoldable pub callText : Call → List ℕ
+  callText c =
+      bytesOf first second (c .second) (c .name)
+      ++ (bytes "(" ++ (joinedBy (bytes ",") (each (parameterText (c .second)) (c .parameters)) ++ bytes ")"))
+
+  -- "a comma alone between events"; "each line ended by a newline"
+  unfoldable pub productionText : Production → List ℕ
+  productionText p =
+      joinedBy (bytes ",") (each eventText (p .events))
+      ++ (bytes ":" ++ (joinedBy (bytes " ") (each callText (p .calls)) ++ bytes "\n"))
+
+  unfoldable pub productionsText : List Production → List ℕ
+  productionsText [] = []
+  productionsText (p ∷ ps) = productionText p ++ productionsText ps
+
+  -- the canonical text of a table over its texts; no directive is written
+  unfoldable pub canonicalText : Table → List ℕ
+  canonicalText t = productionsText (t .productions)

@@ -1,0 +1,156 @@
+-- Demand 3: one claim about every list of matcher calls (document 01, "Selection", from "Demand 3 is a single claim").
+use Prim.Native.Nat.{ℕ, _≤_, _<_}
+use mathlib.Core.Path.{_≡_}
+use mathlib.Core.Logic.{_⊎_}
+use mathlib.Core.Bool.{Bool, true, false, cond, not}
+use mathlib.Core.List.{List, [], _∷_, _++_}
+use mathlib.Core.Option.{Option, none, some}
+use lib.Dec.{eqb}
+use lib.ListN.{length}
+use Rattle.model.specs.Lists.{given}
+use Rattle.model.specs.Limits.{mapLength}
+use Rattle.model.specs.Numbers.{matchOrder, matchedNumber, matchedSelection}
+use Rattle.model.specs.Modifiers.{bit}
+use Rattle.model.specs.Tables.{Table}
+use Rattle.model.specs.Compiling.{compiled, accepted}
+use Rattle.model.specs.Records.{isBadRecord, recordRead}
+use Rattle.model.specs.Selection.{Reading, Standing, standing}
+use Rattle.model.specs.Matching.{readingOf, tests}
+use Rattle.model.specs.Merging.{mergedTable, mergePassesLimit}
+use Rattle.model.specs.declared.events.Event.{Event}
+use Rattle.model.specs.declared.answers.RecordRead.{RecordRead}
+use Rattle.model.specs.declared.answers.Matched.{Matched}
+
+-- ---- Tables and calls
+
+-- "An accepted table is one that an accepted call gave"
+pub data Accepted : Table → Type 0 where
+  byCompiling : {t : Table} (text : List ℕ) → compiled text ≡ accepted t → Accepted t
+  byMerging :
+      {old new : Table} → Accepted old → Accepted new → old .merged ≡ false → new .merged ≡ false
+      → mergePassesLimit old new ≡ false → Accepted (mergedTable old new)
+
+-- "Its calls share table, texts, map and time, .. and bring any record and byte order."
+pub record MatchCall : Type 0 where
+  pub bytes : List ℕ
+  pub order : ℕ
+
+-- ---- What the rules name
+
+module _ (t : Table) (map : List ℕ) (limit : ℕ) where
+  -- the number that refuses a call on an accepted table and a state that came from a fresh one: "over its record or over a map"
+  abbrev pub callNumber : MatchCall → ℕ
+  callNumber c =
+      matchOrder (not (eqb (length map) mapLength)) false false (isBadRecord (c .bytes) (c .order)) false
+
+  -- rule 1: "An event whose type no production has, expansion included, is dropped"
+  abbrev pub heardEvent : RecordRead → List Event
+  heardEvent (RecordRead.Event e) = cond (readingOf t map limit .known e) (e ∷ []) []
+  heardEvent (RecordRead.Refused n) = []
+
+  -- what a call adds to the history: "A call that the numbers above refuse .. adds nothing"
+  unfoldable pub heard : MatchCall → List Event
+  heard c = cond (eqb (callNumber c) 0) (heardEvent (recordRead (c .bytes) (c .order))) []
+
+  -- rule 2: "The rest are numbered in order from 1; that is the history."
+  unfoldable pub history : List MatchCall → List Event
+  history [] = []
+  history (c ∷ cs) = heard c ++ history cs
+
+  abbrev pub standingAt : List MatchCall → ℕ → Standing
+  standingAt cs n = standing (readingOf t map limit) (history cs) n
+
+  -- what stands after the last event of the history of a list of calls
+  abbrev pub standingAfter : List MatchCall → Standing
+  standingAfter cs = standingAt cs (length (history cs))
+
+  abbrev pub selection : Option ℕ → Matched
+  selection none = Matched.Heard
+  selection (some p) = Matched.Selected p
+
+  -- a call that no number refuses, the last of a list
+  abbrev pub namedHeard : List MatchCall → List Event → Matched
+  namedHeard cs [] = Matched.Dropped
+  namedHeard cs (e ∷ es) = selection (standingAfter cs .selected)
+
+  -- what the rules name at a call, after the calls before it
+  unfoldable pub named : List MatchCall → MatchCall → Matched
+  named before c =
+      cond (eqb (callNumber c) 0) (namedHeard (before ++ (c ∷ [])) (heard c)) (Matched.Refused (callNumber c))
+
+  -- what they name at every call, after the calls before them
+  unfoldable pub namedFrom : List MatchCall → List MatchCall → List Matched
+  namedFrom before [] = []
+  namedFrom before (c ∷ cs) = named before c ∷ namedFrom (before ++ (c ∷ [])) cs
+
+-- ---- What a matcher answers
+
+-- a matcher on one table, map and multi-click time
+pub record Matcher (S : Type 0) : Type 0 where
+  pub fresh : S
+  pub answer : S → MatchCall → Matched
+  pub next : S → MatchCall → S
+
+module _ {S : Type 0} (m : Matcher S) where
+  -- the answers at every call from a state on
+  unfoldable pub answersFrom : S → List MatchCall → List Matched
+  answersFrom s [] = []
+  answersFrom s (c ∷ cs) = m .answer s c ∷ answersFrom (m .next s c) cs
+
+  -- the state after calls
+  unfoldable pub stateAfter : S → List MatchCall → S
+  stateAfter s [] = s
+  stateAfter s (c ∷ cs) = stateAfter (m .next s c) cs
+
+-- ---- Alike in all but bits that the table does not test
+
+-- "events that differ in those bits at most"
+pub record Like (t : Table) (x y : Event) : Type 0 where
+  pub code : x .code ≡ y .code
+  pub detail : x .detail ≡ y .detail
+  pub time : x .time ≡ y .time
+  pub state : (k : ℕ) → tests t k ≡ true → bit k (x .state) ≡ bit k (y .state)
+
+-- "their records read to the same refusal or to events that differ in those bits at most"
+abbrev pub LikeReads : Table → RecordRead → RecordRead → Type 0
+LikeReads t (RecordRead.Event x) (RecordRead.Event y) = Like t x y
+LikeReads t (RecordRead.Event x) (RecordRead.Refused n) = ⊥
+LikeReads t (RecordRead.Refused n) (RecordRead.Event y) = ⊥
+LikeReads t (RecordRead.Refused n) (RecordRead.Refused k) = n ≡ k
+
+-- "equally long and, at each place, .."
+pub data Alike (t : Table) : List MatchCall → List MatchCall → Type 0 where
+  empty : Alike t [] []
+  more :
+      {c d : MatchCall} {cs ds : List MatchCall}
+      → LikeReads t (recordRead (c .bytes) (c .order)) (recordRead (d .bytes) (d .order))
+      → Alike t cs ds → Alike t (c ∷ cs) (d ∷ ds)
+
+-- ---- The claim
+
+-- about one list of calls
+pub record Demand3 {S : Type 0} (m : Matcher S) (t : Table) (map : List ℕ) (limit : ℕ) (cs : List MatchCall) : Type 0 where
+  -- "at every call the selected production is the one that 01's rules name from the whole history, or none exactly where
+  -- they name none"
+  pub selects : answersFrom m (m .fresh) cs ≡ namedFrom t map limit [] cs
+  -- "a refused call selects none and changes nothing"
+  pub refuses :
+      (before rest : List MatchCall) (c : MatchCall) → cs ≡ before ++ (c ∷ rest)
+      → (matchedNumber (m .answer (stateAfter m (m .fresh) before) c) ≡ 0 → ⊥)
+      → (matchedSelection (m .answer (stateAfter m (m .fresh) before) c) ≡ none)
+      × (m .next (stateAfter m (m .fresh) before) c ≡ stateAfter m (m .fresh) before)
+  -- "the events of two selections start at the same event or have none in common": at events i and j of the history, whose
+  -- stretches begin at the latest start there was
+  pub apart :
+      (i j : ℕ) → i ≤ j → j ≤ length (history t map limit cs)
+      → given (standingAt t map limit cs i .selected) ≡ true
+      → given (standingAt t map limit cs j .selected) ≡ true
+      → (standingAt t map limit cs i .latest ≡ standingAt t map limit cs j .latest)
+      ⊎ (i < standingAt t map limit cs j .latest)
+  -- "two lists alike in all but modifier bits that the table does not test get the same numbers and selections"
+  pub blind : (ds : List MatchCall) → Alike t cs ds → answersFrom m (m .fresh) cs ≡ answersFrom m (m .fresh) ds
+
+-- "For any accepted table, one keyboard map, one multi-click time and every list of matcher calls from a fresh state"
+abbrev pub Demand3For : {S : Type 0} → (Table → List ℕ → ℕ → Matcher S) → Type 0
+Demand3For matcher =
+    (t : Table) → Accepted t → (map : List ℕ) (limit : ℕ) (cs : List MatchCall) → Demand3 (matcher t map limit) t map limit cs
