@@ -137,7 +137,7 @@ unfoldable pub stateMeets : ℕ → ℕ → Bool → ℕ → Bool
 stateMeets set clear clause state = bitsMet set clear state && clauseMet clause state
 
 -- number 8, "no 13-bit modifier state meets the event's test": a bit is asked both set and clear, or at least one button is
--- asked for and all are asked clear (proofs/Impossible shows that it is the same)
+-- asked for and all are asked clear (the crate modifiers shows that it is the same)
 unfoldable pub noStateMeets : ℕ → ℕ → Bool → Bool
 noStateMeets set clear clause =
     any (λ k. bit k set && bit k clear) bits || (clause && all (λ k. bit k clear) buttonBits)
