@@ -1,0 +1,4 @@
+pub mod Bools
+pub mod Laws
+pub mod RunLaws
+pub mod Images
