@@ -1,0 +1,7 @@
+// Reading one line of text by position, against the definitions of the crate model.
+pub mod bytes;
+pub mod calls;
+pub mod keys;
+pub mod lines;
+pub mod modifiers;
+pub mod types;
