@@ -3,15 +3,15 @@
 use Prim.Native.Nat.{ℕ, zero, suc, pred, max, _+_, _-_, _≤_, _<_}
 use native.Mathlib.Omega.{arith}
 use native.Mathlib.Nat.{not-suc-le-zero, le-of-suc-le-suc, eq-or-lt-of-le}
-use mathlib.Core.Logic.{_⊎_, ⊎-elim}
-use mathlib.Core.Path.{_≡_, refl, sym, ap, ap₂, _∙_, subst}
+use mathlib.Core.Logic.{⊎-elim}
+use mathlib.Core.Path.{_≡_, refl, sym, ap, _∙_, subst}
 use mathlib.Core.Bool.{Bool, true, false, cond}
 use mathlib.Core.Option.{Option, none, some}
 use mathlib.Core.List.{List, [], _∷_, _++_}
-use lib.ListN.{length, take, drop, length-append, length-drop}
-use lib.Seq.{take-append-le, take-all, length-take-le, drop-length, drop-append-le, drop-drop}
-use Rattle.model.specs.Selection.{Reading, Standing, atFirst, stretch, smallest, goesOn, after, newStart, contextAt, selectedAt, latestOf, lastOf, stands, next, standing}
-use Rattle.machine.specs.Kept.{Kept, fresh, longestEnd, grown, unused, moved, chosenIn, choice, marked, kept, keptAll}
+use lib.ListN.{length, take, drop, length-drop}
+use lib.Seq.{take-append-le, take-append-seam, take-all, drop-length, drop-append-le, drop-drop}
+use Rattle.model.specs.Selection.{Reading, Standing, atFirst, stretch, smallest, goesOn, contextAt, selectedAt, latestOf, stands, next, standing}
+use Rattle.machine.specs.Kept.{Kept, fresh, longestEnd, grown, usedUp, moved, chosenIn, choice, marked, kept, keptAll}
 
 -- ---- Lists
 
@@ -249,7 +249,8 @@ module _ {E : Type 0} (R : Reading E) where
         rw (drop-append-le n xs (y ∷ []) (omega arith), d .1) (dead-on (d .0) (drop (suc n) xs) y (rw (d .1) at f))
 
     -- event suc t of the history h is e, and `a` and `k` stand before it
-    module _ (h : List E) (t : ℕ) (e : E) (a : Standing) (k : Kept E) (more : take (suc t) h ≡ take t h ++ (e ∷ [])) (r : Tracks (take t h) t a k) where
+    module _ (h : List E) (t : ℕ) (e : E) (a : Standing) (k : Kept E)
+        (more : take (suc t) h ≡ take t h ++ (e ∷ [])) (r : Tracks (take t h) t a k) where
       now : length (take (suc t) h) ≡ suc t
       now = ap length more ∙ length-snoc (take t h) e ∙ ap suc (r .len)
 
@@ -282,9 +283,9 @@ module _ {E : Type 0} (R : Reading E) where
       moved-open q l false f =
           let low : ℕ = max (a .latest) (a .last) in
           let g = found (take (suc t) h) low (suc t - low) (omega (arith, now)) in
-          let i : pred (r .start) + max 1 (k .selected) ≡ low = omega (arith, r .same (r .start) q) in
-          let d : drop (max 1 (k .selected)) (drop (pred (r .start)) (take (suc t) h)) ≡ drop low (take (suc t) h)
-          = drop-drop (max 1 (k .selected)) (pred (r .start)) (take (suc t) h) ∙ ap (λ n. drop n (take (suc t) h)) i in
+          let i : pred (r .start) + usedUp R k ≡ low = omega (arith, r .same (r .start) q) in
+          let d : drop (usedUp R k) (drop (pred (r .start)) (take (suc t) h)) ≡ drop low (take (suc t) h)
+          = drop-drop (usedUp R k) (pred (r .start)) (take (suc t) h) ∙ ap (λ n. drop n (take (suc t) h)) i in
           rw (q, grown-now (omega arith), f, d)
           (record {
             len = now;
@@ -318,9 +319,9 @@ module _ {E : Type 0} (R : Reading E) where
             dead = λ n x y. dead-now n x (omega arith) (omega arith);
           })
       moved-shut q i false f ev s =
-          let d : drop (max 1 (k .selected)) (drop t (take (suc t) h)) ≡ []
-          = drop-drop (max 1 (k .selected)) t (take (suc t) h)
-          ∙ ap (λ n. drop n (take (suc t) h)) (let z : t + max 1 (k .selected) ≡ length (take (suc t) h) = omega (arith, now) in z)
+          let d : drop (usedUp R k) (drop t (take (suc t) h)) ≡ []
+          = drop-drop (usedUp R k) t (take (suc t) h)
+          ∙ ap (λ n. drop n (take (suc t) h)) (let z : t + usedUp R k ≡ length (take (suc t) h) = omega (arith, now) in z)
           ∙ drop-length (take (suc t) h) in
           rw (s, ev, f, d)
           (record {
@@ -371,7 +372,7 @@ module _ {E : Type 0} (R : Reading E) where
 
   -- ---- The whole history
 
-  kept-snoc : (k : Kept E) (xs : List E) (e : E) → keptAll R k (xs ++ (e ∷ [])) ≡ kept R (keptAll R k xs) e
+  pub kept-snoc : (k : Kept E) (xs : List E) (e : E) → keptAll R k (xs ++ (e ∷ [])) ≡ kept R (keptAll R k xs) e
   unfolding keptAll
   kept-snoc k [] e = refl
   kept-snoc k (x ∷ xs) e = kept-snoc (kept R k x) xs e
@@ -426,3 +427,17 @@ module _ {E : Type 0} (R : Reading E) where
         → choice R (keptAll R fresh (take t h)) e ≡ standing R h (suc t) .selected
     unfolding standing
     choice-history t e more l = choice-next closed h t e (standing R h t) (keptAll R fresh (take t h)) more (tracks-history t l)
+
+  -- the same at the last event of a history
+  pub choice-snoc :
+      Closed → (h : List E) (e : E)
+      → choice R (keptAll R fresh h) e ≡ standing R (h ++ (e ∷ [])) (length (h ++ (e ∷ []))) .selected
+  choice-snoc closed h e =
+      let all : take (suc (length h)) (h ++ (e ∷ [])) ≡ h ++ (e ∷ [])
+      = take-all (suc (length h)) (h ++ (e ∷ [])) (omega (arith, length-snoc h e)) in
+      let seam : take (length h) (h ++ (e ∷ [])) ≡ h = take-append-seam h (e ∷ []) in
+      let more : take (suc (length h)) (h ++ (e ∷ [])) ≡ take (length h) (h ++ (e ∷ [])) ++ (e ∷ [])
+      = all ∙ ap (λ l. l ++ (e ∷ [])) (sym seam) in
+      ap (λ l. choice R (keptAll R fresh l) e) (sym seam)
+      ∙ choice-history closed (h ++ (e ∷ [])) (length h) e more (omega (arith, length-snoc h e))
+      ∙ ap (λ n. standing R (h ++ (e ∷ [])) n .selected) (sym (length-snoc h e))

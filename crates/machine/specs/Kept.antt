@@ -1,7 +1,7 @@
 -- A bounded matcher: of the history it keeps the events of the open context alone, and how many of them are used up.
 -- proofs/Demand shows that it meets demand 3, which speaks of the whole history.
-use Prim.Native.Nat.{ℕ, max}
-use mathlib.Core.Bool.{Bool, true, false, cond, not, _&&_}
+use Prim.Native.Nat.{ℕ, max, _≤_}
+use mathlib.Core.Bool.{Bool, false, cond, not, _&&_}
 use mathlib.Core.List.{List, [], _∷_, _++_}
 use mathlib.Core.Option.{Option, none, some}
 use lib.Dec.{eqb, ltb}
@@ -33,6 +33,11 @@ fresh = record { events = []; selected = 0 }
 abbrev pub contextLimit : ℕ
 contextLimit = 24
 
+-- a state as calls leave it (proofs/Bounded)
+pub record Bounded {E : Type 0} (k : Kept E) : Type 0 where
+  pub few : length (k .events) ≤ contextLimit
+  pub within : k .selected ≤ length (k .events)
+
 -- ---- One event of the history
 
 module _ {E : Type 0} (R : Reading E) where
@@ -45,10 +50,13 @@ module _ {E : Type 0} (R : Reading E) where
   abbrev pub grown : Kept E → E → List E
   grown k x = k .events ++ (x ∷ [])
 
-  -- what a new start may take of it: "after both s (the latest start there was ..) and the last event at which anything was
-  -- selected"
+  -- how many of its first events no new start may take: "after both s (the latest start there was ..) and the last event at
+  -- which anything was selected"
+  abbrev pub usedUp : Kept E → ℕ
+  usedUp k = max 1 (k .selected)
+
   abbrev pub unused : Kept E → E → List E
-  unused k x = drop (max 1 (k .selected)) (grown k x)
+  unused k x = drop (usedUp k) (grown k x)
 
   -- rule 3: the context goes on, or moves on to the new start, or closes
   unfoldable pub moved : Kept E → E → Kept E

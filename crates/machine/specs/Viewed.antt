@@ -1,6 +1,5 @@
 -- When one matcher does what another does, on states that hold more or are laid out otherwise.
 -- proofs/Viewed shows that demand 3 then passes from the second to the first.
-use Prim.Native.Nat.{ℕ}
 use mathlib.Core.Path.{_≡_}
 use Rattle.model.specs.Numbers.{matchedNumber}
 use Rattle.model.specs.Demand.{MatchCall, Matcher}
