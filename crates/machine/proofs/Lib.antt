@@ -1,0 +1,11 @@
+pub mod Track
+pub mod Apart
+pub mod Tests
+pub mod Prefix
+pub mod Limits
+pub mod Untested
+pub mod Blind
+pub mod Bounded
+pub mod Selects
+pub mod Demand
+pub mod Viewed
