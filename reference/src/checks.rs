@@ -1,0 +1,288 @@
+//! Checks on generated cases of what 01 says of any table and any list of events.
+
+use crate::calls::{self, Texts};
+use crate::compiling::compile;
+use crate::generate::events::{EventList, RecordCall};
+use crate::generate::{self, Case, Expected, Text};
+use crate::limits;
+use crate::merging::merge;
+use crate::numbers::Number;
+use crate::random::Random;
+use crate::records::Event;
+use crate::selection::{tested_bits, Matcher};
+use crate::statistics::Statistics;
+use crate::table::{Directive, Table};
+use crate::writing::write;
+use std::fmt;
+use std::ops::Range;
+
+/// A case that a check failed on.
+#[derive(Debug)]
+pub struct Failure {
+    pub seed: u64,
+    pub number: u64,
+    pub message: String,
+}
+
+impl fmt::Display for Failure {
+    fn fmt(&self, out: &mut fmt::Formatter) -> fmt::Result {
+        let Failure {
+            seed,
+            number,
+            message,
+        } = self;
+        write!(out, "seed {seed}, case {number}: {message}")
+    }
+}
+
+/// Checks the cases of these numbers.
+pub fn run(seed: u64, numbers: Range<u64>) -> Result<Statistics, Failure> {
+    let mut statistics = Statistics::default();
+    for number in numbers {
+        let case = generate::case(seed, number);
+        // The checks draw their own numbers, so that they leave the cases as they are.
+        let random = &mut Random::new(!seed, number);
+        check_case(&case, random, &mut statistics).map_err(|message| Failure {
+            seed,
+            number,
+            message,
+        })?;
+    }
+    Ok(statistics)
+}
+
+type Checked<T> = Result<T, String>;
+
+fn check_case(case: &Case, random: &mut Random, statistics: &mut Statistics) -> Checked<()> {
+    match case {
+        Case::Compile(text) => {
+            let compiled = check_text(text, statistics)?;
+            statistics.count_compile_case(number_of(&compiled));
+        }
+        Case::Merge {
+            old,
+            new,
+            expected,
+            aim,
+        } => {
+            statistics.merge_cases += 1;
+            let tables = (check_text(old, statistics)?, check_text(new, statistics)?);
+            if let (Ok(old_table), Ok(new_table)) = tables {
+                let merged = merge(&old_table, &new_table);
+                check_result(&merged, &[&old.bytes, &new.bytes], expected, statistics)?;
+                statistics.count_merge(number_of(&merged), *aim);
+            }
+        }
+        Case::Match { old, text, list } => {
+            statistics.count_match_case(old.is_some());
+            for text in old.iter().chain([text]) {
+                check_text(text, statistics)?.map_err(|number| format!("{number:?}"))?;
+            }
+            if let Ok(table) = generate::table(old.as_ref(), text) {
+                check_list(&table, list, random, statistics)?;
+            }
+        }
+    }
+    Ok(())
+}
+
+fn number_of<T>(result: &Result<T, Number>) -> Number {
+    result.as_ref().err().copied().unwrap_or(Number::Accepted)
+}
+
+/// Compiles the text and checks the result.
+fn check_text(text: &Text, statistics: &mut Statistics) -> Checked<Result<Table, Number>> {
+    let compiled = compile(&text.bytes).map_err(|refusal| refusal.number);
+    check_result(&compiled, &[&text.bytes, b""], &text.expected, statistics)?;
+    statistics.count_aim(text.aim);
+    if let Ok(table) = &compiled {
+        statistics.count_forms(table);
+    }
+    Ok(compiled)
+}
+
+/// The result is what the generator meant, and an accepted table can be written and read back.
+fn check_result(
+    result: &Result<Table, Number>,
+    texts: &Texts,
+    expected: &Expected,
+    statistics: &mut Statistics,
+) -> Checked<()> {
+    let as_expected = match (result, expected) {
+        (_, Expected::Unknown) => true,
+        (Ok(table), Expected::Accepted(directive, productions)) => {
+            table.directive == *directive
+                && calls::contents(table, texts).as_ref() == Ok(productions)
+        }
+        (Err(number), Expected::Refused(expected)) => number == expected,
+        _ => false,
+    };
+    ensure(as_expected, || {
+        let number = number_of(result);
+        format!(
+            "{number:?} or its table was not expected of {}",
+            shown(texts)
+        )
+    })?;
+    match result {
+        Ok(table) => check_written(table, texts, statistics),
+        Err(_) => Ok(()),
+    }
+}
+
+/// "The canonical text of an accepted table" compiles to the same productions if it is not too
+/// long.
+fn check_written(table: &Table, texts: &Texts, statistics: &mut Statistics) -> Checked<()> {
+    let written = write(table, texts).map_err(|number| format!("not written: {number:?}"))?;
+    if written.len() > limits::TEXT_BYTES {
+        statistics.too_long_written += 1;
+        return Ok(());
+    }
+    statistics.written_and_compiled += 1;
+    let same = compile(&written).is_ok_and(|again| {
+        again.directive == Directive::Replace
+            && calls::contents(&again, &[&written, b""]) == calls::contents(table, texts)
+    });
+    ensure(same, || {
+        let written = String::from_utf8_lossy(&written);
+        format!("other productions in {written:?} than in {}", shown(texts))
+    })
+}
+
+fn shown(texts: &Texts) -> String {
+    let [first, second] = texts.map(String::from_utf8_lossy);
+    format!("{first:?} {second:?}")
+}
+
+fn ensure(holds: bool, message: impl Fn() -> String) -> Checked<()> {
+    match holds {
+        true => Ok(()),
+        false => Err(message()),
+    }
+}
+
+/// What one call gave, and the first and last event of the context after it.
+#[derive(Clone, Debug, PartialEq, Eq)]
+pub struct Outcome {
+    pub number: Number,
+    pub selected: Option<usize>,
+    pub context: Option<(usize, usize)>,
+}
+
+impl Outcome {
+    /// How many events the context keeps.
+    pub fn kept(&self) -> usize {
+        self.context.map_or(0, |(start, end)| end - start + 1)
+    }
+}
+
+fn outcomes(table: &Table, list: &EventList, calls: &[RecordCall]) -> (Vec<Outcome>, Vec<Event>) {
+    let mut matcher = Matcher::new(table, &list.map, list.multi_click_time);
+    let outcome = |call: &RecordCall| {
+        let (number, selected) = matcher.call(&call.record, call.order);
+        let context = matcher
+            .context()
+            .map(|range| (*range.start(), *range.end()));
+        Outcome {
+            number,
+            selected,
+            context,
+        }
+    };
+    let outcomes = calls.iter().map(outcome).collect();
+    (outcomes, matcher.history().to_vec())
+}
+
+fn check_list(
+    table: &Table,
+    list: &EventList,
+    random: &mut Random,
+    statistics: &mut Statistics,
+) -> Checked<()> {
+    let (outcomes, history) = outcomes(table, list, &list.calls);
+    check_contexts(&outcomes)?;
+    check_selections(&outcomes)?;
+    check_untested_bits(table, list, random, &outcomes)?;
+    check_moved_times(table, list, random, &outcomes)?;
+    statistics.count_outcomes(&outcomes, &history);
+    statistics.count_clicks(&history, list.multi_click_time);
+    Ok(())
+}
+
+/// The context never keeps more than 24 events, so 15 is never given.
+fn check_contexts(outcomes: &[Outcome]) -> Checked<()> {
+    for outcome in outcomes {
+        let few = outcome.kept() <= limits::EVENTS_IN_PRODUCTION;
+        ensure(few && outcome.number != Number::ContextTooLong, || {
+            format!("the context is too long: {outcome:?}")
+        })?;
+    }
+    Ok(())
+}
+
+/// The stretches that selections were made on.
+pub fn selections(outcomes: &[Outcome]) -> Vec<(usize, usize)> {
+    let selecting = outcomes.iter().filter(|outcome| outcome.selected.is_some());
+    selecting.filter_map(|outcome| outcome.context).collect()
+}
+
+/// Any two selections' events start at the same event or are disjoint.
+fn check_selections(outcomes: &[Outcome]) -> Checked<()> {
+    let selections = selections(outcomes);
+    let selecting = outcomes.iter().filter(|outcome| outcome.selected.is_some());
+    ensure(selecting.count() == selections.len(), || {
+        "a selection without a context".to_string()
+    })?;
+    for (at, first) in selections.iter().enumerate() {
+        for second in &selections[at + 1..] {
+            let apart = first.1 < second.0 || second.1 < first.0;
+            ensure(first.0 == second.0 || apart, || {
+                format!("selections on {first:?} and {second:?}")
+            })?;
+        }
+    }
+    Ok(())
+}
+
+/// State bits that the table does not test change nothing.
+fn check_untested_bits(
+    table: &Table,
+    list: &EventList,
+    random: &mut Random,
+    expected: &[Outcome],
+) -> Checked<()> {
+    let untested = !tested_bits(table);
+    check_alike(table, list, expected, |call| {
+        call.with_state_bits_turned(random.card16() & untested)
+    })
+    .map_err(|message| format!("untested bits changed {message}"))
+}
+
+/// Only differences of times count, modulo 4,294,967,296.
+fn check_moved_times(
+    table: &Table,
+    list: &EventList,
+    random: &mut Random,
+    expected: &[Outcome],
+) -> Checked<()> {
+    let by = random.card32();
+    check_alike(table, list, expected, |call| call.with_time_moved(by))
+        .map_err(|message| format!("times moved by {by} changed {message}"))
+}
+
+/// The list with each call changed has the same outcomes.
+fn check_alike(
+    table: &Table,
+    list: &EventList,
+    expected: &[Outcome],
+    change: impl FnMut(&RecordCall) -> RecordCall,
+) -> Checked<()> {
+    let changed: Vec<RecordCall> = list.calls.iter().map(change).collect();
+    let (found, _) = outcomes(table, list, &changed);
+    for (at, (found, expected)) in found.iter().zip(expected).enumerate() {
+        ensure(found == expected, || {
+            format!("call {at} from {expected:?} to {found:?}")
+        })?;
+    }
+    Ok(())
+}

@@ -1,0 +1,206 @@
+//! Productions as the generator means them, before they are spelled.
+
+use crate::calls::{CallContents, ProductionContents};
+use crate::counts;
+use crate::details::{self, Taken, KEYS, LARGEST_KEYSYM, LARGEST_NUMBER};
+use crate::limits;
+use crate::modifiers::{self, ModifierTest, ALL, BUTTONS};
+use crate::names;
+use crate::random::Random;
+use crate::table::EventSpec;
+use crate::text::is_text_byte;
+
+/// The most parameters of one production here, so that ten of them stay within the limits.
+const MOST_PARAMETERS: usize = 24;
+
+/// Unrelated productions of all forms.
+pub fn productions(random: &mut Random, most: usize, longest: usize) -> Vec<ProductionContents> {
+    let mut all = Vec::new();
+    for _ in 0..random.below(most + 1) {
+        let mut events = (0..random.range(1, longest))
+            .map(|_| event(random))
+            .collect();
+        cut_to_limit(&mut events);
+        let calls = calls(random);
+        all.push(ProductionContents { events, calls });
+    }
+    all
+}
+
+/// Productions over a few kinds of events, with shared beginnings and ends.
+pub fn related_productions(random: &mut Random) -> Vec<ProductionContents> {
+    let kinds: Vec<EventSpec> = (0..random.range(1, 4)).map(|_| event(random)).collect();
+    let longest = *random.pick(&[1, 2, 3, 3, 4, 6, 24]);
+    let mut all: Vec<ProductionContents> = Vec::new();
+    for _ in 0..random.range(1, 8) {
+        let mut events = match random.percent(40) && !all.is_empty() {
+            true => part_of(random, &all),
+            false => Vec::new(),
+        };
+        for _ in 0..random.range(1, longest) {
+            let kind = *random.pick(&kinds);
+            events.push(varied(random, kind));
+        }
+        cut_to_limit(&mut events);
+        let calls = vec![call(random)];
+        all.push(ProductionContents { events, calls });
+    }
+    all
+}
+
+fn part_of(random: &mut Random, all: &[ProductionContents]) -> Vec<EventSpec> {
+    let events = &random.pick(all).events;
+    let cut = random.below(events.len() + 1);
+    match random.percent(50) {
+        true => events[..cut].to_vec(),
+        false => events[cut..].to_vec(),
+    }
+}
+
+/// The kind with another count, a press for a release, or as it is.
+fn varied(random: &mut Random, kind: EventSpec) -> EventSpec {
+    let mut spec = kind;
+    if names::is_key_or_button(spec.code) {
+        match random.below(10) {
+            0..=2 => spec.count = random.range(1, 3) as u8,
+            // The two codes of a pair of press and release differ in the lowest bit.
+            3..=4 => spec.code ^= 1,
+            _ => {}
+        }
+    }
+    spec
+}
+
+fn cut_to_limit(events: &mut Vec<EventSpec>) {
+    let length =
+        |events: &[EventSpec]| -> usize { events.iter().map(counts::expanded_length).sum() };
+    while length(events) > limits::EVENTS_IN_PRODUCTION {
+        events.pop();
+    }
+}
+
+pub fn event(random: &mut Random) -> EventSpec {
+    let code = code(random);
+    let counted = names::is_key_or_button(code) && random.percent(25);
+    EventSpec {
+        code,
+        count: match counted {
+            true => random.range(2, usize::from(counts::LARGEST_COUNT).min(4)) as u8,
+            false => 1,
+        },
+        test: test(random, code),
+        detail: detail(random, code),
+    }
+}
+
+fn code(random: &mut Random) -> u8 {
+    let (low, high) = match random.below(100) {
+        0..=34 => (names::KEY_PRESS, names::KEY_RELEASE),
+        35..=64 => (names::BUTTON_PRESS, names::BUTTON_RELEASE),
+        65..=76 => (names::MOTION_NOTIFY, names::MOTION_NOTIFY),
+        77..=84 => (names::ENTER_NOTIFY, names::FOCUS_OUT),
+        85..=86 => (names::MAPPING_NOTIFY, names::MAPPING_NOTIFY),
+        _ => (names::FIRST_CODE, names::LAST_CODE),
+    };
+    random.range(usize::from(low), usize::from(high)) as u8
+}
+
+/// A test that some state meets.
+fn test(random: &mut Random, code: u8) -> ModifierTest {
+    if !names::has_state(code) {
+        return ModifierTest::default();
+    }
+    let colon = names::is_key(code) && random.percent(25);
+    let testable = modifiers::testable(colon);
+    let set = few_bits(random) & testable;
+    let (set, clear) = match random.below(10) {
+        0..=3 => (0, 0),
+        4..=6 => (set, few_bits(random) & testable & !set),
+        7..=8 => (set, testable & !set),
+        _ => (set, random.card16() & testable & !set),
+    };
+    let mut test = ModifierTest {
+        set,
+        clear,
+        colon,
+        clause: false,
+    };
+    if code == names::MOTION_NOTIFY && set & BUTTONS == 0 && random.percent(60) {
+        test.clause = true;
+        test.clause = test.can_hold();
+    }
+    test
+}
+
+/// No bit to three bits.
+pub fn few_bits(random: &mut Random) -> u16 {
+    random.card16() & random.card16() & random.card16() & ALL
+}
+
+fn detail(random: &mut Random, code: u8) -> Option<u32> {
+    if random.percent(25) {
+        return None;
+    }
+    match details::taken(code) {
+        Taken::Keysym => Some(keysym(random)),
+        Taken::Names(known) => Some(random.pick(known).1),
+        Taken::NamesAndNumbers(known) => Some(match random.percent(70) {
+            true => random.pick(known).1,
+            false => random.card32() & LARGEST_NUMBER,
+        }),
+        Taken::Atom | Taken::Nothing => None,
+    }
+}
+
+pub fn keysym(random: &mut Random) -> u32 {
+    match random.below(20) {
+        0..=5 => random.range(0x61, 0x64) as u32,
+        6..=8 => random.range(0x41, 0x44) as u32,
+        9..=10 => random.range(0xC0, 0xFF) as u32,
+        11..=14 => random.range(0x20, 0x7E) as u32,
+        15..=17 => random.pick(KEYS).1,
+        18 => *random.pick(&[0, 1, 7, 8, 9, 10, LARGEST_KEYSYM - 1, LARGEST_KEYSYM]),
+        _ => random.card32() & LARGEST_KEYSYM,
+    }
+}
+
+pub fn calls(random: &mut Random) -> Vec<CallContents> {
+    let most = *random.pick(&[1, 1, 2, 3, limits::CALLS_IN_PRODUCTION]);
+    let mut calls: Vec<CallContents> = (0..random.below(most + 1)).map(|_| call(random)).collect();
+    let mut room = MOST_PARAMETERS;
+    for call in &mut calls {
+        call.parameters.truncate(room);
+        room -= call.parameters.len();
+    }
+    calls
+}
+
+fn call(random: &mut Random) -> CallContents {
+    let most = *random.pick(&[0, 1, 2, 3, limits::PARAMETERS_IN_CALL]);
+    CallContents {
+        name: name(random),
+        parameters: (0..random.below(most + 1))
+            .map(|_| parameter(random))
+            .collect(),
+    }
+}
+
+fn name(random: &mut Random) -> Vec<u8> {
+    let signs = b"abzAZ019_-";
+    (0..random.range(1, 6))
+        .map(|_| *random.pick(signs))
+        .collect()
+}
+
+/// Any bytes that can be quoted.
+fn parameter(random: &mut Random) -> Vec<u8> {
+    let plain = random.percent(60);
+    let byte = |random: &mut Random| match plain {
+        true => *random.pick(b"abz09(<:\\$\xE9"),
+        false => random.byte(),
+    };
+    let bytes = (0..random.below(8)).map(|_| byte(random));
+    bytes
+        .filter(|&byte| is_text_byte(byte) && !matches!(byte, b'"' | b'\n'))
+        .collect()
+}

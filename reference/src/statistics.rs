@@ -1,0 +1,195 @@
+//! What generated cases were, so that one can see that they reach all forms and limits.
+
+use crate::checks::{selections, Outcome};
+use crate::generate::limits::{Aim, Limit};
+use crate::names;
+use crate::numbers::Number;
+use crate::records::Event;
+use crate::table::Table;
+use std::collections::BTreeMap;
+use std::fmt;
+
+#[derive(Clone, Debug, Default)]
+pub struct Statistics {
+    pub compile_cases: usize,
+    pub merge_cases: usize,
+    pub match_cases: usize,
+    pub merged_match_cases: usize,
+    /// Compile cases by the compiler's number.
+    pub compiled: [usize; Number::COUNT],
+    /// Merges of two accepted tables by the merger's number.
+    pub merged: [usize; Number::COUNT],
+    /// Matcher calls by number.
+    pub calls: [usize; Number::COUNT],
+    /// Cases at, and cases one past, each of `Limit::ALL`.
+    pub at_limit: [usize; Limit::ALL.len()],
+    pub past_limit: [usize; Limit::ALL.len()],
+    /// Events of accepted texts by code.
+    pub codes: BTreeMap<u8, usize>,
+    pub counted_events: usize,
+    pub exact_events: usize,
+    pub colon_events: usize,
+    pub clause_events: usize,
+    pub detailed_events: usize,
+    pub written_and_compiled: usize,
+    pub too_long_written: usize,
+    pub heard: usize,
+    pub selections: usize,
+    /// Selections on more than one event.
+    pub long_selections: usize,
+    pub longest_context: usize,
+    /// Contexts that were opened at an event before the one that opened them.
+    pub later_starts: usize,
+    /// Clicks after the one before by one less than the multi-click time, and by just that.
+    pub just_in_time: usize,
+    pub just_too_late: usize,
+    /// Steps of the clock over its wrap, between heard events and inside selections.
+    pub wraps: usize,
+    pub selections_over_wrap: usize,
+}
+
+impl Statistics {
+    /// The share of compile cases that were accepted, in percent.
+    pub fn accepted_percent(&self) -> usize {
+        100 * self.compiled[0] / self.compile_cases.max(1)
+    }
+
+    /// How many events of the rarest code there were.
+    pub fn fewest_of_a_code(&self) -> usize {
+        (names::FIRST_CODE..=names::LAST_CODE)
+            .map(|code| self.codes.get(&code).copied().unwrap_or(0))
+            .min()
+            .unwrap_or(0)
+    }
+
+    pub fn count_compile_case(&mut self, number: Number) {
+        self.compile_cases += 1;
+        self.compiled[number.index()] += 1;
+    }
+
+    pub fn count_merge(&mut self, number: Number, aim: Option<Aim>) {
+        self.merged[number.index()] += 1;
+        self.count_aim(aim);
+    }
+
+    pub fn count_match_case(&mut self, merged: bool) {
+        self.match_cases += 1;
+        self.merged_match_cases += usize::from(merged);
+    }
+
+    pub fn count_aim(&mut self, aim: Option<Aim>) {
+        let Some(Aim { limit, past }) = aim else {
+            return;
+        };
+        match past {
+            true => self.past_limit[limit as usize] += 1,
+            false => self.at_limit[limit as usize] += 1,
+        }
+    }
+
+    pub fn count_forms(&mut self, table: &Table) {
+        for spec in table.events() {
+            *self.codes.entry(spec.code).or_default() += 1;
+            self.counted_events += usize::from(spec.count > 1);
+            self.exact_events += usize::from(spec.test.is_exact());
+            self.colon_events += usize::from(spec.test.colon);
+            self.clause_events += usize::from(spec.test.clause);
+            self.detailed_events += usize::from(spec.detail.is_some());
+        }
+    }
+
+    pub fn count_clicks(&mut self, history: &[Event], multi_click_time: u32) {
+        let of_one_kind = history.windows(3).filter(|three| {
+            three[0].code == three[2].code && names::is_key_or_button(three[0].code)
+        });
+        for three in of_one_kind {
+            let difference = three[2].time.wrapping_sub(three[0].time);
+            self.just_in_time += usize::from(Some(difference) == multi_click_time.checked_sub(1));
+            self.just_too_late += usize::from(difference == multi_click_time);
+        }
+    }
+
+    pub fn count_outcomes(&mut self, outcomes: &[Outcome], history: &[Event]) {
+        for outcome in outcomes {
+            self.calls[outcome.number.index()] += 1;
+            self.longest_context = self.longest_context.max(outcome.kept());
+        }
+        let contexts = outcomes.iter().filter_map(|outcome| outcome.context);
+        let mut latest_start = 0;
+        for (start, end) in contexts {
+            self.later_starts += usize::from(start != latest_start && start < end);
+            latest_start = start;
+        }
+        self.heard += history.len();
+        self.wraps += wraps(history);
+        for (start, end) in selections(outcomes) {
+            self.selections += 1;
+            self.long_selections += usize::from(end > start);
+            let over_wrap = wraps(&history[start - 1..end]) > 0;
+            self.selections_over_wrap += usize::from(over_wrap);
+        }
+    }
+}
+
+/// How often the clock wraps from one event to the next, each with a time.
+fn wraps(history: &[Event]) -> usize {
+    let timed: Vec<u32> = history
+        .iter()
+        .filter(|event| names::has_state(event.code))
+        .map(|event| event.time)
+        .collect();
+    let steps = timed.windows(2);
+    let forward = |step: &&[u32]| step[1].wrapping_sub(step[0]) < 1 << 31;
+    steps
+        .filter(forward)
+        .filter(|step| step[1] < step[0])
+        .count()
+}
+
+impl fmt::Display for Statistics {
+    fn fmt(&self, out: &mut fmt::Formatter) -> fmt::Result {
+        writeln!(out, "compile cases     {}", self.compile_cases)?;
+        writeln!(out, "  accepted        {}%", self.accepted_percent())?;
+        writeln!(out, "  by number       {}", by_number(&self.compiled))?;
+        writeln!(out, "merge cases       {}", self.merge_cases)?;
+        writeln!(out, "  by number       {}", by_number(&self.merged))?;
+        for limit in Limit::ALL {
+            let at = limit as usize;
+            let name = format!("{limit:?}");
+            let (reached, passed) = (self.at_limit[at], self.past_limit[at]);
+            writeln!(out, "limit {name:<18} {reached} at it, {passed} past it")?;
+        }
+        let events: usize = self.codes.values().sum();
+        writeln!(out, "events            {events}")?;
+        writeln!(out, "  of each code    {} or more", self.fewest_of_a_code())?;
+        writeln!(out, "  counted         {}", self.counted_events)?;
+        writeln!(out, "  all bits asked  {}", self.exact_events)?;
+        writeln!(out, "  with colon      {}", self.colon_events)?;
+        writeln!(out, "  with clause     {}", self.clause_events)?;
+        writeln!(out, "  with detail     {}", self.detailed_events)?;
+        writeln!(out, "written, compiled {}", self.written_and_compiled)?;
+        writeln!(out, "written, too long {}", self.too_long_written)?;
+        writeln!(out, "match cases       {}", self.match_cases)?;
+        writeln!(out, "  on a merged     {}", self.merged_match_cases)?;
+        writeln!(out, "  calls           {}", by_number(&self.calls))?;
+        writeln!(out, "  heard           {}", self.heard)?;
+        writeln!(out, "  dropped         {}", self.calls[0] - self.heard)?;
+        writeln!(out, "  selections      {}", self.selections)?;
+        writeln!(out, "  on several      {}", self.long_selections)?;
+        writeln!(out, "  over a wrap     {}", self.selections_over_wrap)?;
+        writeln!(out, "  later starts    {}", self.later_starts)?;
+        writeln!(out, "  just in time    {}", self.just_in_time)?;
+        writeln!(out, "  just too late   {}", self.just_too_late)?;
+        writeln!(out, "  wraps           {}", self.wraps)?;
+        write!(out, "  longest context {}", self.longest_context)
+    }
+}
+
+/// Each number that occurred, with how often.
+fn by_number(counts: &[usize]) -> String {
+    let seen = counts.iter().enumerate().filter(|&(_, &count)| count > 0);
+    let shown: Vec<String> = seen
+        .map(|(number, count)| format!("{number}: {count}"))
+        .collect();
+    shown.join(", ")
+}
