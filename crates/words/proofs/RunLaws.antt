@@ -111,6 +111,7 @@ module _ {A : Type 0} where
     where
       first : f s ≡ g r
       first = ap f (sym (add-zero s)) ∙ e 0 (omega arith) ∙ ap g (add-zero r)
+
       rest : (i : ℕ) → i < n → f (suc s + i) ≡ g (suc r + i)
       rest i h = ap f (suc-add s i ∙ sym (add-suc s i)) ∙ e (suc i) (omega arith) ∙ ap g (add-suc r i ∙ sym (suc-add r i))
 
