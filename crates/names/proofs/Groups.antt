@@ -1,8 +1,8 @@
 -- The table's rule, by one computed test over the whole table, and each group's lookup from it. Assumes nothing.
 use Prim.Native.Nat.{ℕ}
 use mathlib.Core.Path.{_≡_, refl}
-use mathlib.Core.List.{List, [], _∷_}
-use mathlib.Core.Option.{Option, none}
+use mathlib.Core.List.{List}
+use mathlib.Core.Option.{none}
 use Rattle.model.specs.Names.{named, modifierNamed, typeNamed, modifierEntries, typeEntries, protocolEntries, synonymEntries, abbreviationEntries}
 use Rattle.model.specs.Details.{keysymEntries, buttonEntries, motionEntries, modeEntries, requestEntries, nameOrNumber}
 use Rattle.model.specs.Lines.{directiveOf}
@@ -11,7 +11,7 @@ use Rattle.model.specs.declared.names.TypeName.{TypeName}
 use Rattle.model.specs.declared.names.ModifierName.{ModifierName}
 use Rattle.names.specs.Table.{nameAt, allNames, directiveEntries, modifierBits, modifierAt, typeCodes, typeAdded, typeDetails, typeAt, detailValues}
 use Rattle.names.specs.Find.{findFrom, meaningOf, typeMeaning, detailMeaning, directiveMeaning, detailFound, foundOrNumber}
-use Rattle.names.specs.Rule.{Holds, TableHolds}
+use Rattle.names.specs.Rule.{TableHolds}
 use Rattle.names.proofs.Lookup.{found-named}
 
 pub table-holds : TableHolds

@@ -3,3 +3,4 @@ pub mod Places
 pub mod Lookup
 pub mod Groups
 pub mod Digits
+pub mod Ranges

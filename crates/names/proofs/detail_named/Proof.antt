@@ -1,5 +1,5 @@
 -- `names::detail_named` meets its contract. Assumes nothing.
-use mathlib.Core.Path.{sym, _∙_}
+use mathlib.Core.Path.{_∙_}
 use borrow.Author.Tests.{eq-eqb, ne-eqb}
 use Rattle.model.specs.Details.{detailNamed}
 use Rattle.names.proofs.Groups.{button-found, motion-found, mode-found, request-found}

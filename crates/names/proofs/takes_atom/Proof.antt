@@ -1,5 +1,4 @@
 -- `names::takes_atom` meets its contract. Assumes nothing.
-use mathlib.Core.Path.{sym, _∙_}
 use borrow.Author.Needs.{needs}
 use Rattle.names.proofs.takes_atom.Statement.{statement}
 use Rattle.names.proofs.takes_atom.Tie as tie

@@ -1,6 +1,5 @@
 -- `names::find::find` meets its contract. The loop's invariant: what is left of the range gives the whole. Assumes nothing.
 use Prim.Native.Nat.{_-_, _≤_}
-use native.Mathlib.Omega.{arith}
 use mathlib.Core.Path.{_≡_, refl, sym, _∙_}
 use borrow.Author.Needs.{needs}
 use Rattle.names.specs.Find.{findFrom}
