@@ -1,0 +1,115 @@
+-- `names::find::is_name` meets its contract. The loop's invariant: the lengths agree, and the word is the name if what is left
+-- of the one is what is left of the other. Assumes nothing.
+use Prim.Native.Nat.{ℕ, _+_, _-_, _≤_, _<_}
+use native.Mathlib.Omega.{arith}
+use mathlib.Core.Path.{_≡_, refl, sym, ap, _∙_}
+use lib.ListN.{length, drop, getD}
+use borrow.Author.Needs.{needs}
+use Rattle.model.specs.Lists.{same}
+use Rattle.names.specs.Table.{nameAt, nameText, nameStarts, nameLengths}
+use Rattle.names.proofs.Words.{same-more, same-stop, same-end, same-length}
+use Rattle.names.proofs.Places.{word-ends, word-length, word-byte}
+use Rattle.names.proofs.find.is_name.Statement.{statement}
+use Rattle.names.proofs.find.is_name.Tie as tie
+
+abbrev Inv-loop : tie.InvT-loop
+Inv-loop w place start len i₀ i =
+    (i ≤ length w)
+    × (place < 155)
+    × (start ≡ getD nameStarts place 0)
+    × (length w ≡ getD nameLengths place 0)
+    × (same w (nameAt place) ≡ same (drop i w) (drop i (nameAt place)))
+
+abbrev μ-loop : tie.MeasureT-loop
+μ-loop w place start len i₀ i = length w - i
+
+name-start-requires : tie.Need-name-start-requires Inv-loop μ-loop
+name-start-requires c κs = search needs
+
+name-length-requires : tie.Need-name-length-requires Inv-loop μ-loop
+name-length-requires c κs = search needs
+
+returns : tie.Need-returns Inv-loop μ-loop
+returns c =
+    let a = c .before .before .before .before .args in
+    sym
+    (same-length (a .w .now) (nameAt (a .place))
+    (λ e. c .if1 .taken (e ∙ word-length (a .place) (search needs) ∙ sym (c .before .name-length .ensures))))
+
+loop-holds : tie.Need-loop-holds Inv-loop μ-loop
+loop-holds c =
+    (search needs, search needs, c .before .before .name-start .ensures, c .if1 .left ∙ c .before .name-length .ensures, refl)
+
+shared-slice-read-if2 : tie.Need-shared-slice-read-if2 Inv-loop μ-loop
+shared-slice-read-if2 c = search needs
+
+add-name-byte : tie.Need-add-name-byte Inv-loop μ-loop
+add-name-byte c =
+    omega (arith, word-ends (c .before .before .before .before .before .before .before .args .place) (search needs), c .before .before .loop .inv .2, c .before .before .loop .inv .3)
+
+name-byte-requires : tie.Need-name-byte-requires Inv-loop μ-loop
+name-byte-requires c κs =
+    omega (arith, word-ends (c .before .before .before .before .before .before .before .args .place) (search needs), c .before .before .loop .inv .2, c .before .before .loop .inv .3)
+
+returns-2 : tie.Need-returns-2 Inv-loop μ-loop
+returns-2 c =
+    let a = c .before .before .before .before .before .before .before .before .before .args in
+    let i = c .before .before .before .before .loop .i in
+    let inv = c .before .before .before .before .loop .inv in
+    let l : length (nameAt (a .place)) ≡ length (a .w .now) = word-length (a .place) (inv .1) ∙ sym (inv .3) in
+    let b : getD (nameAt (a .place)) i 0 ≡ c .before .name-byte .result =
+    word-byte (a .place) (inv .1) i (omega arith)
+    ∙ ap (λ (s : ℕ). getD nameText (s + i) 0) (sym (inv .2))
+    ∙ sym (c .before .name-byte .ensures)
+    in
+    sym (inv .4 ∙ same-stop (a .w .now) (nameAt (a .place)) i (omega arith) (omega arith) (λ e. c .if2 .taken (e ∙ b)))
+
+add-i : tie.Need-add-i Inv-loop μ-loop
+add-i c = search needs
+
+loop-less : tie.Need-loop-less Inv-loop μ-loop
+loop-less c = search needs
+
+loop-again : tie.Need-loop-again Inv-loop μ-loop
+loop-again c =
+    let a = c .before .before .before .before .before .before .before .before .before .args in
+    let i = c .before .before .before .before .loop .i in
+    let inv = c .before .before .before .before .loop .inv in
+    let l : length (nameAt (a .place)) ≡ length (a .w .now) = word-length (a .place) (inv .1) ∙ sym (inv .3) in
+    let b : getD (nameAt (a .place)) i 0 ≡ c .before .name-byte .result =
+    word-byte (a .place) (inv .1) i (omega arith)
+    ∙ ap (λ (s : ℕ). getD nameText (s + i) 0) (sym (inv .2))
+    ∙ sym (c .before .name-byte .ensures)
+    in (
+      search needs,
+      inv .1,
+      inv .2,
+      inv .3,
+      inv .4 ∙ same-more (a .w .now) (nameAt (a .place)) i (omega arith) (omega arith) (c .if2 .left ∙ sym b),
+    )
+
+returns-3 : tie.Need-returns-3 Inv-loop μ-loop
+returns-3 c =
+    let a = c .before .before .before .before .before .before .args in
+    let inv = c .before .loop .inv in
+    let l : length (nameAt (a .place)) ≡ length (a .w .now) = word-length (a .place) (inv .1) ∙ sym (inv .3) in
+    sym (inv .4 ∙ same-end (a .w .now) (nameAt (a .place)) (c .before .loop .i) (omega arith) (omega arith))
+
+pub is-name-spec : {M : Type 1} → statement M
+is-name-spec =
+    tie.close
+    (tie.spec
+    Inv-loop
+    μ-loop
+    name-start-requires
+    name-length-requires
+    returns
+    loop-holds
+    shared-slice-read-if2
+    add-name-byte
+    name-byte-requires
+    returns-2
+    add-i
+    loop-less
+    loop-again
+    returns-3)

@@ -1,0 +1,18 @@
+-- The row is the one that the rules' entries compute to: one test over the whole row. Assumes nothing.
+use mathlib.Core.Path.{refl}
+use Rattle.names.specs.Table.{nameText, allNames, directiveEntries}
+use Rattle.model.specs.Names.{modifierEntries, typeEntries, protocolEntries, synonymEntries, abbreviationEntries}
+use Rattle.model.specs.Details.{keysymEntries, buttonEntries, motionEntries, modeEntries, requestEntries}
+use borrow.Author.Needs.{needs}
+use Rattle.names.proofs.table.name_byte.Statement.{statement}
+use Rattle.names.proofs.table.name_byte.Tie as tie
+
+array-read-result : tie.Need-array-read-result
+array-read-result c = search needs
+
+returns : tie.Need-returns
+unfolding nameText allNames directiveEntries modifierEntries typeEntries protocolEntries synonymEntries abbreviationEntries keysymEntries buttonEntries motionEntries modeEntries requestEntries
+returns c = refl
+
+pub name-byte-spec : {M : Type 1} → statement M
+name-byte-spec = tie.close (tie.spec array-read-result returns)

@@ -1,0 +1,54 @@
+// Numbers of details, in base 8, 10 or 16.
+use model::names::DetailRead;
+ghost use mathlib.Core.Path.{_≡_};
+ghost use Prim.Native.Nat.{_≤_, _<_};
+ghost use Rattle.model.specs.Bytes.{inRange};
+ghost use Rattle.model.specs.Details.{digitValue, numberIn};
+
+pub fn in_range(low: u8, b: u8, high: u8) -> bool
+    ensures { λ r. ⌜ r ≡ inRange low b high ⌝ }
+{
+    low <= b && b <= high
+}
+
+// A digit's value, 16 for any other byte.
+pub fn digit_value(b: u8) -> u64
+    ensures { λ r. ⌜ r ≡ digitValue b ⌝ }
+{
+    if in_range(b'0', b, b'9') {
+        return (b - 48) as u64;
+    }
+    if in_range(b'a', b, b'f') {
+        return (b - 87) as u64;
+    }
+    if in_range(b'A', b, b'F') {
+        return (b - 55) as u64;
+    }
+    16
+}
+
+// A number, malformed before too large. A value past the limit grows no more, so that it fits whatever follows.
+pub fn number_in(w: &[u8], base: u64, limit: u64) -> DetailRead
+    requires { ⌜ (0 < base) × (base ≤ 16) × (limit < 4294967296) ⌝ }
+    ensures { λ r. ⌜ r ≡ numberIn base limit (now (w .entry)) ⌝ }
+{
+    if w.len() == 0 {
+        return DetailRead::Unknown;
+    }
+    let mut value: u64 = 0;
+    let mut i = 0;
+    while i < w.len() {
+        let digit = digit_value(w[i]);
+        if base <= digit {
+            return DetailRead::Unknown;
+        }
+        if value <= limit {
+            value = value * base + digit;
+        }
+        i += 1;
+    }
+    if limit < value {
+        return DetailRead::TooLarge;
+    }
+    DetailRead::Value(value as u32)
+}
