@@ -7,7 +7,7 @@ use mathlib.Core.Bool.{Bool, true, false, cond}
 use lib.ListN.{length, getD}
 use lib.Dec.{eqb, leb}
 use borrow.Author.Tests.{eqb-false, leb-false}
-use Rattle.model.specs.Bytes.{runEnd, skip, byteAt, signAt}
+use Rattle.model.specs.Bytes.{runEnd, skip, signAt}
 use Rattle.model.specs.Events.{leadColon, leadFrom, leadAt, keysymFrom, nameFrom, modifierNameAt, modifierFrom, modifierAt, typeFrom, typeRun, typeName, typeAt, countClose, countPlus, countRun, countDigits, countFrom, countAt, markedKey, keyAt, afterEventFrom, afterEventAt}
 use Rattle.model.specs.Calls.{parameterEnd, quotedFrom, unquotedFrom, parameterFrom, parameterAt, callNameFrom, callFrom, callAt}
 use Rattle.model.specs.declared.scan.Class.{Class}

@@ -1,11 +1,11 @@
 -- Runs of bytes: where one ends, one byte at a time, and its bounds.
-use Prim.Native.Nat.{ℕ, zero, suc, _+_, _-_, _≤_, _<_}
+use Prim.Native.Nat.{ℕ, zero, suc, _+_, _≤_, _<_}
 use native.Mathlib.Omega.{arith}
 use native.Mathlib.Numerals.{add-one}
-use mathlib.Core.Path.{_≡_, refl, sym, ap, _∙_}
+use mathlib.Core.Path.{_≡_, refl, sym, ap, _∙_, subst}
 use mathlib.Core.List.{List, [], _∷_}
-use mathlib.Core.Bool.{Bool, true, false, cond}
-use lib.ListN.{length, drop, getD, length-drop, drop-of-length-le, List·getD-eq-default}
+use mathlib.Core.Bool.{Bool, true, false}
+use lib.ListN.{length, drop, getD, length-drop, drop-of-length-le}
 use lib.Seq.{drop-cons}
 use lib.Dec.{eqb}
 use borrow.Author.Tests.{eqb-true, eq-eqb, ne-eqb}
@@ -89,3 +89,7 @@ test-not p q = ne-eqb _ _ (λ e. q (p ∙ e))
 -- a byte that the code found to be a sign stands within the line
 pub test-in : {b : ℕ} (l : List ℕ) (at k : ℕ) → 0 < k → b ≡ getD l at 0 → b ≡ k → at < length l
 test-in l at k h p q = byte-in l at k h (sym p ∙ q)
+
+-- what holds of the value that a call gives by its contract holds of the value that a match found
+pub told : {A : Type 0} (P : A → Type 0) {r x y : A} → r ≡ x → r ≡ y → P x → P y
+told P p q h = subst P (sym p ∙ q) h

@@ -1,1 +1,4 @@
 pub mod BadByte
+pub mod ModifierLists
+pub mod Spans
+pub mod Sides

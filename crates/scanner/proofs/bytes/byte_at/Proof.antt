@@ -3,18 +3,13 @@ use mathlib.Core.Path.{refl, sym}
 use lib.ListN.{List·getD-eq-default}
 use Rattle.scanner.proofs.bytes.byte_at.Statement.{statement}
 use Rattle.scanner.proofs.bytes.byte_at.Tie as tie
-use Rattle.scanner.proofs.bytes.byte_at.Reads as reads
-use Rattle.scanner.proofs.bytes.byte_at.Lts as lts
 
--- src/bytes.rt:38:16
 shared-slice-read-result : tie.Need-shared-slice-read-result
 shared-slice-read-result c = search needs
 
--- src/bytes.rt:38:9
 returns : tie.Need-returns
 returns c = refl
 
--- src/bytes.rt:34:1
 returns-2 : tie.Need-returns-2
 returns-2 c = sym (List·getD-eq-default (c .before .args .l .now) 0 (c .if1 .left))
 

@@ -6,10 +6,7 @@ use borrow.Author.Tests.{le-leb}
 use Rattle.model.specs.Bytes.{isAllowed}
 use Rattle.scanner.proofs.bytes.is_allowed.Statement.{statement}
 use Rattle.scanner.proofs.bytes.is_allowed.Tie as tie
-use Rattle.scanner.proofs.bytes.is_allowed.Reads as reads
-use Rattle.scanner.proofs.bytes.is_allowed.Lts as lts
 
--- src/bytes.rt:27:1
 returns : tie.Need-returns
 unfolding isAllowed
 returns c =

@@ -2,10 +2,7 @@ use mathlib.Core.Path.{refl}
 use Rattle.model.specs.Bytes.{isBlank}
 use Rattle.scanner.proofs.bytes.is_blank.Statement.{statement}
 use Rattle.scanner.proofs.bytes.is_blank.Tie as tie
-use Rattle.scanner.proofs.bytes.is_blank.Reads as reads
-use Rattle.scanner.proofs.bytes.is_blank.Lts as lts
 
--- src/bytes.rt:8:1
 returns : tie.Need-returns
 unfolding isBlank
 returns c = refl

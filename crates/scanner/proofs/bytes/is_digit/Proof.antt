@@ -2,10 +2,7 @@ use mathlib.Core.Path.{refl}
 use Rattle.model.specs.Bytes.{isDigit}
 use Rattle.scanner.proofs.bytes.is_digit.Statement.{statement}
 use Rattle.scanner.proofs.bytes.is_digit.Tie as tie
-use Rattle.scanner.proofs.bytes.is_digit.Reads as reads
-use Rattle.scanner.proofs.bytes.is_digit.Lts as lts
 
--- src/bytes.rt:14:1
 returns : tie.Need-returns
 unfolding isDigit
 returns c = refl

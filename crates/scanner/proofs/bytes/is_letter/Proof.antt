@@ -2,10 +2,7 @@ use mathlib.Core.Path.{refl}
 use Rattle.model.specs.Bytes.{isLetter}
 use Rattle.scanner.proofs.bytes.is_letter.Statement.{statement}
 use Rattle.scanner.proofs.bytes.is_letter.Tie as tie
-use Rattle.scanner.proofs.bytes.is_letter.Reads as reads
-use Rattle.scanner.proofs.bytes.is_letter.Lts as lts
 
--- src/bytes.rt:20:1
 returns : tie.Need-returns
 unfolding isLetter
 returns c = refl

@@ -9,6 +9,7 @@ use mathlib.Core.Path.{_∙_, _≡_, refl, sym}
 use Rattle.scanner.proofs.lines.find_bad_byte.Statement.{statement}
 use Rattle.scanner.proofs.lines.find_bad_byte.Tie as tie
 
+-- what is left from i on gives the whole
 abbrev Inv-loop : tie.InvT-loop
 Inv-loop text i₀ i = (i ≤ length text) × (firstBadByte text ≡ earliest isBad i (drop i text))
 

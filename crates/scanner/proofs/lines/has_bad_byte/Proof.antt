@@ -9,6 +9,7 @@ use mathlib.Core.Path.{_∙_, _≡_, sym}
 use Rattle.scanner.proofs.lines.has_bad_byte.Statement.{statement}
 use Rattle.scanner.proofs.lines.has_bad_byte.Tie as tie
 
+-- what is left from i on gives the whole
 abbrev Inv-loop : tie.InvT-loop
 Inv-loop text bad₀ i₀ i-end bad i = (i ≤ length text) × (given (firstBadByte text) ≡ bad || any isBad (drop i text))
 

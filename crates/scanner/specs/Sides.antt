@@ -1,0 +1,70 @@
+-- The two sides of a production: what the code keeps of the model's reading of them.
+use Prim.Native.Nat.{ℕ, _+_, max}
+use mathlib.Core.Bool.{cond}
+use mathlib.Core.List.{List, [], _∷_}
+use lib.ListN.{length}
+use Rattle.model.specs.Lists.{inAll}
+use Rattle.model.specs.Bytes.{skip, signAt}
+use Rattle.model.specs.Events.{EventsRead, events, eventsAt, afterEventAt}
+use Rattle.model.specs.Calls.{WrittenCall, Parameters, parameters, parametersAt, CallsRead, calls}
+use Rattle.model.specs.declared.scan.AfterEvent.{AfterEvent}
+use Rattle.model.specs.declared.scan.CallRead.{CallRead}
+use Rattle.scanner.specs.declared.sides.LeftRead.{LeftRead}
+use Rattle.scanner.specs.declared.sides.ParametersOpen.{ParametersOpen}
+use Rattle.scanner.specs.declared.sides.ParametersRead.{ParametersRead}
+use Rattle.scanner.specs.declared.sides.CallSpans.{CallSpans}
+use Rattle.scanner.specs.declared.sides.RightRead.{RightRead}
+
+-- ---- Events
+
+abbrev pub stepOf : List ℕ → EventsRead → AfterEvent
+stepOf l EventsRead.broken = AfterEvent.Broken
+stepOf l (events es next) = afterEventAt l next
+
+unfoldable pub eventStep : List ℕ → ℕ → AfterEvent
+eventStep l at = stepOf l (eventsAt l at)
+
+abbrev pub leftOf : EventsRead → LeftRead
+leftOf EventsRead.broken = LeftRead.Broken
+leftOf (events es next) = LeftRead.Left next
+
+-- ---- Parameters
+
+-- "`f()` has no parameter"
+unfoldable pub openFrom : List ℕ → ℕ → ParametersOpen
+openFrom l at = cond (signAt l at ")") (ParametersOpen.Empty (at + 1)) (ParametersOpen.First at)
+
+unfoldable pub openAt : List ℕ → ℕ → ParametersOpen
+openAt l at = openFrom l (skip l at)
+
+abbrev pub counted : Parameters → ParametersRead
+counted Parameters.broken = ParametersRead.Broken
+counted (parameters ss next) = ParametersRead.Parameters (length ss) next
+
+-- ---- Calls
+
+abbrev pub callCounted : ℕ → ℕ → ParametersRead → CallSpans
+callCounted start end ParametersRead.Broken = CallSpans.Broken
+callCounted start end (ParametersRead.Parameters count next) = CallSpans.Call start end count next
+
+abbrev pub callSpans : List ℕ → CallRead → CallSpans
+callSpans l CallRead.Broken = CallSpans.Broken
+callSpans l CallRead.End = CallSpans.End
+callSpans l (CallRead.Name start end) = callCounted start end (counted (parametersAt l (end + 1)))
+
+abbrev pub parametersOf : WrittenCall → ℕ
+parametersOf c = length (c .parameters)
+
+-- the largest number of parameters that one call has
+abbrev pub mostOf : List WrittenCall → ℕ
+mostOf [] = 0
+mostOf (c ∷ cs) = max (parametersOf c) (mostOf cs)
+
+abbrev pub rightOf : CallsRead → RightRead
+rightOf CallsRead.broken = RightRead.Broken
+rightOf (calls cs) = RightRead.Right (length cs) (inAll parametersOf cs) (mostOf cs)
+
+-- the calls that stand there, none where they are not in the grammar
+abbrev pub callsIn : CallsRead → List WrittenCall
+callsIn CallsRead.broken = []
+callsIn (calls cs) = cs
