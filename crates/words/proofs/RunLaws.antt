@@ -56,6 +56,13 @@ total-add f s n (suc m) =
     let e : s + (n + m) ≡ s + n + m = omega arith in
     rw (add-suc, total, e) (omega (arith, total-add f s n m))
 
+pub total-first : (f : ℕ → ℕ) (s n : ℕ) → total f s (suc n) ≡ f s + total f (suc s) n
+unfolding total
+total-first f s zero = let e : s + 0 ≡ s = omega arith in rw e (omega arith)
+total-first f s (suc n) =
+    let e : s + suc n ≡ suc s + n = omega arith in
+    rw e (omega (arith, total-first f s n))
+
 pub total-same : (f g : ℕ → ℕ) (s r n : ℕ) → ((i : ℕ) → i < n → f (s + i) ≡ g (r + i)) → total f s n ≡ total g r n
 unfolding total
 total-same f g s r zero e = refl
@@ -94,6 +101,9 @@ module _ {A : Type 0} where
 
   pub run-more : (f : ℕ → A) (s n : ℕ) → run f s (n + 1) ≡ run f s n ++ (f (s + n) ∷ [])
   run-more f s n = run-append f s n 1 ∙ ap (λ (r : List A). run f s n ++ r) (run-one f (s + n))
+
+  pub run-last : (f : ℕ → A) (s n : ℕ) → run f s (suc n) ≡ run f s n ++ (f (s + n) ∷ [])
+  run-last f s n = rw (← add-one) (run-more f s n)
 
   -- a run gives the list whose elements it gives
   pub run-list : (f : ℕ → A) (s n : ℕ) (xs : List A) (d : A) → length xs ≡ n → ((i : ℕ) → i < n → f (s + i) ≡ getD xs i d) → run f s n ≡ xs

@@ -1,0 +1,10 @@
+pub mod Asked
+pub mod Listed
+pub mod Same
+pub mod Parts
+pub mod Detailed
+pub mod NameRanges
+pub mod EventRanges
+pub mod Reading
+pub mod SpanRanges
+pub mod LineRanges

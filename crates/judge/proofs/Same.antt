@@ -1,0 +1,117 @@
+-- An event judged by the value of its modifier list is judged as model's `judgedAs` says.
+use Prim.Native.Nat.{ℕ, _<_}
+use mathlib.Core.Path.{_≡_, sym, ap, ap₂, _∙_}
+use mathlib.Core.Bool.{Bool, false, not, _&&_, _||_, and-assoc}
+use lib.Dec.{lit<}
+use Rattle.model.specs.Lists.{any}
+use Rattle.model.specs.Numbers.{eventOrder}
+use Rattle.model.specs.Names.{shiftBit, lockBit, typeNamed}
+use Rattle.model.specs.Codes.{isKey}
+use Rattle.model.specs.Events.{ModifierList, Written}
+use Rattle.model.specs.Modifiers.{bit, mask, buttonBits, isShiftOrLock, listsSet, listsClear, has, hasColon, asksOthersClear, asksSet, asksClear, addsBit, addsClause, setMask, clearMask, keepsClause}
+use Rattle.model.specs.Judging.{judgedAs, judgedWritten, keptDetail, countValue, keptEvent, eventNumber, keepUnless, isUnknown, isOutOfRange, isUnbuilt, isListNotTaken, isColonMisplaced, isImpossible}
+use Rattle.model.specs.declared.events.KeptEvent.{KeptEvent}
+use Rattle.model.specs.declared.names.Added.{Added}
+use Rattle.model.specs.declared.names.EventType.{EventType}
+use Rattle.model.specs.declared.names.TypeName.{TypeName}
+use Rattle.modifiers.proofs.Masks.{same-mask, bit-mask}
+use Rattle.judge.specs.declared.lists.ListSummary.{ListSummary}
+use Rattle.judge.specs.declared.events.CountSummary.{CountSummary}
+use Rattle.judge.specs.declared.events.DetailSummary.{DetailSummary}
+use Rattle.judge.specs.Summary.{summaryOf, setOf, clearOf, clauseOf}
+use Rattle.judge.specs.Judged.{countSummary, detailSummary, hasStandard, colonMisplaced, keptParts, partsNumber, judgedParts, judgedBy}
+
+module _ (list : ModifierList) where
+  set-bit : (k : ℕ) → k < 13 → bit k (mask (listsSet list)) ≡ listsSet list k
+  set-bit k h = bit-mask (listsSet list) k h
+
+  clear-bit : (k : ℕ) → k < 13 → bit k (mask (listsClear list)) ≡ listsClear list k
+  clear-bit k h = bit-mask (listsClear list) k h
+
+  has-bit : (k : ℕ) → k < 13 → (bit k (mask (listsSet list)) || bit k (mask (listsClear list))) ≡ has list k
+  has-bit k h = ap₂ _||_ (set-bit k h) (clear-bit k h)
+
+  pub set-same : (added : Added) → setOf (mask (listsSet list)) added ≡ setMask list added
+  unfolding setOf setMask asksSet
+  set-same added =
+      same-mask (λ k. bit k (mask (listsSet list)) || addsBit added k) (asksSet list added)
+      (λ k h. ap (λ (b : Bool). b || addsBit added k) (set-bit k h))
+
+  pub clear-same : clearOf (summaryOf list) ≡ clearMask list
+  unfolding clearOf clearMask asksClear summaryOf
+  clear-same =
+      same-mask
+      (λ k.
+      bit k (mask (listsClear list))
+      || (asksOthersClear list
+      && (not (bit k (mask (listsSet list)) || bit k (mask (listsClear list))) && not (hasColon list && isShiftOrLock k))))
+      (asksClear list)
+      (λ k h.
+      ap₂ _||_ (clear-bit k h)
+      (ap (λ (b : Bool). asksOthersClear list && (not b && not (hasColon list && isShiftOrLock k))) (has-bit k h)
+      ∙ sym (and-assoc (asksOthersClear list) (not (has list k)) (not (hasColon list && isShiftOrLock k)))))
+
+  module _ (added : Added) where
+    button-bit : (k : ℕ) → k < 13 → bit k (setMask list added) ≡ asksSet list added k
+    unfolding setMask
+    button-bit k h = bit-mask (asksSet list added) k h
+
+    buttons-same : any (λ k. bit k (setMask list added)) buttonBits ≡ any (asksSet list added) buttonBits
+    buttons-same =
+        ap₂ _||_ (button-bit 8 (lit< tt))
+        (ap₂ _||_ (button-bit 9 (lit< tt))
+        (ap₂ _||_ (button-bit 10 (lit< tt))
+        (ap₂ _||_ (button-bit 11 (lit< tt)) (ap (λ (b : Bool). b || false) (button-bit 12 (lit< tt))))))
+
+    pub clause-same : clauseOf added (setOf (mask (listsSet list)) added) ≡ keepsClause list added
+    unfolding clauseOf keepsClause
+    clause-same =
+        ap (λ (m : ℕ). addsClause added && not (any (λ k. bit k m) buttonBits)) (set-same added)
+        ∙ ap (λ (b : Bool). addsClause added && not b) buttons-same
+
+module _ (w : Written) (ty : EventType) where
+  abbrev counted : CountSummary
+  counted = countSummary (ty .code) (w .count)
+
+  abbrev detailed : DetailSummary
+  detailed = detailSummary ty (w .detail)
+
+  kept-same : keptParts (summaryOf (w .list)) ty counted detailed ≡ keptEvent w ty
+  unfolding keptParts keptEvent summaryOf countSummary detailSummary
+  kept-same =
+      λ i.
+      record {
+        code = ty .code;
+        set = set-same (w .list) (ty .added) i;
+        clear = clear-same (w .list) i;
+        colon = hasColon (w .list);
+        clause = clause-same (w .list) (ty .added) i;
+        detail = keptDetail ty (w .detail);
+        count = countValue (w .count);
+      }
+
+  colon-same : colonMisplaced (summaryOf (w .list)) ty ≡ isColonMisplaced w ty
+  unfolding colonMisplaced summaryOf hasStandard
+  colon-same =
+      ap₂ (λ (a b : Bool). hasColon (w .list) && (not (isKey (ty .code)) || (a || b || addsBit (ty .added) shiftBit)))
+      (has-bit (w .list) shiftBit (lit< tt)) (has-bit (w .list) lockBit (lit< tt))
+
+  impossible : KeptEvent → Bool
+  impossible e = isImpossible e
+
+  number-same : partsNumber (summaryOf (w .list)) ty counted detailed ≡ eventNumber w ty
+  unfolding partsNumber eventNumber summaryOf keptParts impossible countSummary detailSummary
+  number-same =
+      ap₂
+      (λ (a b : Bool). eventOrder (isUnknown w ty) (isOutOfRange w ty) (isUnbuilt w ty) (isListNotTaken w ty) a b)
+      colon-same (ap impossible kept-same)
+
+  pub judged-same : judgedBy (summaryOf (w .list)) ty (w .count) (w .detail) ≡ judgedAs w (TypeName.Known ty)
+  unfolding judgedBy judgedParts
+  judged-same = ap₂ keepUnless number-same kept-same
+
+  -- from the values of its parts
+  pub judged-from : (s : ListSummary) (c : CountSummary) (d : DetailSummary) → typeNamed (w .typeName) ≡ TypeName.Known ty
+      → s ≡ summaryOf (w .list) → c ≡ counted → d ≡ detailed → judgedParts s ty c d ≡ judgedWritten w
+  unfolding judgedBy judgedWritten
+  judged-from s c d e p q r = (λ i. judgedParts (p i) ty (q i) (r i)) ∙ judged-same ∙ sym (ap (judgedAs w) e)

@@ -1,0 +1,128 @@
+-- `judge::spans::modifiers_from` meets its contract. The loop's invariant: the value is that of the modifiers read so far.
+use mathlib.Core.Path.{_≡_, sym, ap, subst, _∙_}
+use Prim.Native.Nat.{_-_}
+use native.Mathlib.Omega.{arith}
+use lib.ListN.{length}
+use Rattle.model.specs.Events.{modifierAt}
+use Rattle.model.specs.declared.scan.ModifierRead.{ModifierRead}
+use Rattle.scanner.proofs.Ranges.{ModifierIn, modifier-in}
+use Rattle.judge.specs.Summary.{withName}
+use Rattle.judge.proofs.NameRanges.{name-in}
+use Rattle.judge.proofs.Reading.{Read, read-start, read-value-in, read-broken, read-end, read-name, read-keysym}
+use borrow.Author.Needs.{needs}
+use Rattle.judge.proofs.spans.modifiers_from.Statement.{statement}
+use Rattle.judge.proofs.spans.modifiers_from.Tie as tie
+
+abbrev Inv-loop : tie.InvT-loop
+Inv-loop l bang colon at s₀ i₀ s i = Read l bang colon at s i
+
+abbrev μ-loop : tie.MeasureT-loop
+μ-loop l bang colon at s₀ i₀ s i = length l - i
+
+-- a name was read, and where it stands
+abbrev NameFound : tie.After-known-told Inv-loop μ-loop → Type 0
+NameFound c =
+    (modifierAt (c .before .before .before .before .before .before .before .args .l .now) (c .before .before .before .before .loop .i) ≡ ModifierRead.Name (c .before .tilde .given .0 .0) (c .before .tilde .given .0 .1 .0) (c .before .tilde .given .0 .1 .1 .0))
+    × ModifierIn (length (c .before .before .before .before .before .before .before .args .l .now)) (c .before .before .before .before .loop .i) (ModifierRead.Name (c .before .tilde .given .0 .0) (c .before .tilde .given .0 .1 .0) (c .before .tilde .given .0 .1 .1 .0))
+
+name-found : (c : tie.After-known-told Inv-loop μ-loop) → NameFound c
+name-found c =
+    let e = sym (c .before .before .before .modifier-at .ensures) ∙ c .before .tilde .given .1 in
+    (e, subst (ModifierIn (length (c .before .before .before .before .before .before .before .args .l .now)) (c .before .before .before .before .loop .i)) e (modifier-in (c .before .before .before .before .before .before .before .args .l .now) (c .before .before .before .before .loop .i) (c .before .before .before .before .loop .inv .inside)))
+
+abbrev KeysymFound : tie.After-known-told2 Inv-loop μ-loop → Type 0
+KeysymFound c =
+    (modifierAt (c .before .before .before .before .before .before .before .args .l .now) (c .before .before .before .before .loop .i) ≡ ModifierRead.Keysym (c .before .end .given .0 .0) (c .before .end .given .0 .1 .0) (c .before .end .given .0 .1 .1 .0))
+    × ModifierIn (length (c .before .before .before .before .before .before .before .args .l .now)) (c .before .before .before .before .loop .i) (ModifierRead.Keysym (c .before .end .given .0 .0) (c .before .end .given .0 .1 .0) (c .before .end .given .0 .1 .1 .0))
+
+keysym-found : (c : tie.After-known-told2 Inv-loop μ-loop) → KeysymFound c
+keysym-found c =
+    let e = sym (c .before .before .before .modifier-at .ensures) ∙ c .before .end .given .1 in
+    (e, subst (ModifierIn (length (c .before .before .before .before .before .before .before .args .l .now)) (c .before .before .before .before .loop .i)) e (modifier-in (c .before .before .before .before .before .before .before .args .l .now) (c .before .before .before .before .loop .i) (c .before .before .before .before .loop .inv .inside)))
+
+led-requires : tie.Need-led-requires Inv-loop μ-loop
+led-requires c κs = search needs
+
+loop-holds : tie.Need-loop-holds Inv-loop μ-loop
+loop-holds c = read-start _ _ _ _ _ (c .before .before .pre) (c .led .ensures)
+
+modifier-at-requires : tie.Need-modifier-at-requires Inv-loop μ-loop
+modifier-at-requires c κs = c .loop .inv .inside
+
+enum-told : tie.Need-enum-told Inv-loop μ-loop
+enum-told c = search needs
+
+led-requires-2 : tie.Need-led-requires-2 Inv-loop μ-loop
+led-requires-2 c κs = search needs
+
+returns : tie.Need-returns Inv-loop μ-loop
+returns c = c .led2 .ensures ∙ read-broken _ _ _ _ _ _ (c .before .before .before .before .loop .inv) (sym (c .before .before .before .modifier-at .ensures) ∙ c .before .enum-told .given .1)
+
+enum-told-2 : tie.Need-enum-told-2 Inv-loop μ-loop
+enum-told-2 c = search needs
+
+returns-2 : tie.Need-returns-2 Inv-loop μ-loop
+returns-2 c = read-end _ _ _ _ _ _ (c .before .before .before .loop .inv) _ (sym (c .before .before .modifier-at .ensures) ∙ c .enum-told2 .given .1)
+
+enum-known-tilde : tie.Need-enum-known-tilde Inv-loop μ-loop
+enum-known-tilde c = search needs
+
+sub-modifier-named : tie.Need-sub-modifier-named Inv-loop μ-loop
+sub-modifier-named c = let f = name-found c .1 in omega (arith, f .0, f .1, f .2)
+
+part-modifier-named-start : tie.Need-part-modifier-named-start Inv-loop μ-loop
+part-modifier-named-start c = let f = name-found c .1 in omega (arith, f .0, f .1, f .2)
+
+part-modifier-named-end : tie.Need-part-modifier-named-end Inv-loop μ-loop
+part-modifier-named-end c = let f = name-found c .1 in omega (arith, f .0, f .1, f .2)
+
+modifier-named-requires : tie.Need-modifier-named-requires Inv-loop μ-loop
+modifier-named-requires c κs = search needs
+
+with-name-requires : tie.Need-with-name-requires Inv-loop μ-loop
+with-name-requires c κs = (read-value-in _ _ _ _ _ _ (c .before .before .before .before .before .before .loop .inv), rw (c .modifier-named .ensures) (name-in _))
+
+loop-less : tie.Need-loop-less Inv-loop μ-loop
+loop-less c = let f = name-found (c .before .before .before) .1 in omega (arith, f .0, f .1, f .2)
+
+loop-again : tie.Need-loop-again Inv-loop μ-loop
+loop-again c = let f = name-found (c .before .before .before) .1 in read-name _ _ _ _ _ _ (c .before .before .before .before .before .before .before .loop .inv) _ _ _ _ (name-found (c .before .before .before) .0) (c .with-name .ensures ∙ ap (withName _ _) (c .before .modifier-named .ensures)) (omega (arith, f .0, f .1, f .2)) (f .2)
+
+enum-known-end : tie.Need-enum-known-end Inv-loop μ-loop
+enum-known-end c = search needs
+
+with-keysym-requires : tie.Need-with-keysym-requires Inv-loop μ-loop
+with-keysym-requires c κs = search needs
+
+loop-less-2 : tie.Need-loop-less-2 Inv-loop μ-loop
+loop-less-2 c = let f = keysym-found (c .before) .1 in omega (arith, f .0, f .1, f .2)
+
+loop-again-2 : tie.Need-loop-again-2 Inv-loop μ-loop
+loop-again-2 c = let f = keysym-found (c .before) .1 in read-keysym _ _ _ _ _ _ (c .before .before .before .before .before .loop .inv) _ _ _ _ (keysym-found (c .before) .0) (c .with-keysym .ensures) (omega (arith, f .0, f .1, f .2)) (f .2)
+
+pub modifiers-from-spec : {M : Type 1} → statement M
+modifiers-from-spec =
+    tie.close
+    (tie.spec
+    Inv-loop
+    μ-loop
+    led-requires
+    loop-holds
+    modifier-at-requires
+    enum-told
+    led-requires-2
+    returns
+    enum-told-2
+    returns-2
+    enum-known-tilde
+    sub-modifier-named
+    part-modifier-named-start
+    part-modifier-named-end
+    modifier-named-requires
+    with-name-requires
+    loop-less
+    loop-again
+    enum-known-end
+    with-keysym-requires
+    loop-less-2
+    loop-again-2)

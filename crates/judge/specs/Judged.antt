@@ -1,0 +1,91 @@
+-- An event judged by the values of its modifier list, count and detail, the same as model's `judgedAs` (proofs/Same).
+use Prim.Native.Nat.{ℕ}
+use mathlib.Core.Bool.{Bool, true, false, cond, not, _&&_, _||_}
+use mathlib.Core.List.{List}
+use mathlib.Core.Option.{Option, none, some}
+use Rattle.model.specs.Numbers.{eventOrder}
+use Rattle.model.specs.Names.{shiftBit, lockBit}
+use Rattle.model.specs.Codes.{isKey, takesModifiers}
+use Rattle.model.specs.Events.{Count}
+use Rattle.model.specs.Modifiers.{bit, addsBit, noStateMeets}
+use Rattle.model.specs.Judging.{readUnknown, readTooLarge, readUnbuilt, readValue, detailUnknown, detailTooLarge, detailUnbuilt, keptDetail, countBad, countUnbuilt, countValue, addsMeta, keepUnless}
+use Rattle.model.specs.declared.events.KeptEvent.{KeptEvent}
+use Rattle.model.specs.declared.names.EventType.{EventType}
+use Rattle.model.specs.declared.names.DetailRead.{DetailRead}
+use Rattle.model.specs.declared.answers.Judged.{Judged}
+use Rattle.judge.specs.declared.lists.ListSummary.{ListSummary}
+use Rattle.judge.specs.declared.events.CountSummary.{CountSummary}
+use Rattle.judge.specs.declared.events.DetailSummary.{DetailSummary}
+use Rattle.judge.specs.Summary.{setOf, clearOf, clauseOf}
+
+-- ---- Counts
+
+-- a count as the scanner hands it over
+unfoldable pub countOf : Bool → Bool → List ℕ → Option Count
+countOf counted plus digits = cond counted (some (record { digits = digits; plus = plus })) none
+
+unfoldable pub countSummary : ℕ → Option Count → CountSummary
+countSummary code count =
+    record { bad = countBad code count; unbuilt = countUnbuilt count; value = countValue count }
+
+-- ---- Details
+
+-- of a detail of at least one byte
+unfoldable pub readSummary : DetailRead → DetailSummary
+readSummary read =
+    record {
+      unknown = readUnknown read;
+      «too_large» = readTooLarge read;
+      unbuilt = readUnbuilt read;
+      kept = readValue read;
+    }
+
+unfoldable pub detailSummary : EventType → List ℕ → DetailSummary
+detailSummary ty word =
+    record {
+      unknown = detailUnknown ty word;
+      «too_large» = detailTooLarge ty word;
+      unbuilt = detailUnbuilt ty word;
+      kept = keptDetail ty word;
+    }
+
+-- ---- The checks
+
+-- Shift or Lock is listed, with `~` or without
+unfoldable pub hasStandard : ℕ → ℕ → Bool
+hasStandard set clear =
+    (bit shiftBit set || bit shiftBit clear) || (bit lockBit set || bit lockBit clear)
+
+-- number 9
+unfoldable pub colonMisplaced : ListSummary → EventType → Bool
+colonMisplaced s ty =
+    s .colon && (not (isKey (ty .code)) || (hasStandard (s .set) (s .clear) || addsBit (ty .added) shiftBit))
+
+unfoldable pub keptParts : ListSummary → EventType → CountSummary → DetailSummary → KeptEvent
+keptParts s ty c d =
+    record {
+      code = ty .code;
+      set = setOf (s .set) (ty .added);
+      clear = clearOf s;
+      colon = s .colon;
+      clause = clauseOf (ty .added) (setOf (s .set) (ty .added));
+      detail = d .kept;
+      count = c .value;
+    }
+
+unfoldable pub partsNumber : ListSummary → EventType → CountSummary → DetailSummary → ℕ
+partsNumber s ty c d =
+    eventOrder
+    (s .unknown || d .unknown)
+    (c .bad || d .«too_large»)
+    (s .unbuilt || addsMeta (ty .added) || c .unbuilt || d .unbuilt)
+    (s .written && not (takesModifiers (ty .code)))
+    (colonMisplaced s ty)
+    (noStateMeets (setOf (s .set) (ty .added)) (clearOf s) (clauseOf (ty .added) (setOf (s .set) (ty .added))))
+
+unfoldable pub judgedParts : ListSummary → EventType → CountSummary → DetailSummary → Judged
+judgedParts s ty c d = keepUnless (partsNumber s ty c d) (keptParts s ty c d)
+
+-- an event of a known type
+unfoldable pub judgedBy : ListSummary → EventType → Option Count → List ℕ → Judged
+judgedBy s ty count detail = judgedParts s ty (countSummary (ty .code) count) (detailSummary ty detail)

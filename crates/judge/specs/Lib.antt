@@ -1,0 +1,4 @@
+pub mod Summary
+pub mod Judged
+pub mod Ranges
+pub mod Spans

@@ -1,0 +1,356 @@
+-- A table within limits and ranges, as bytes, reads as itself.
+use Prim.Native.Nat.{ℕ, zero, suc, _+_, _*_, _-_, _%_, _/_, _≤_, _<_}
+use native.Mathlib.Omega.{arith}
+use native.Mathlib.Nat.{zero-add}
+use mathlib.Core.Path.{_≡_, refl, sym, ap, _∙_}
+use mathlib.Core.List.{List, [], _∷_, _++_, map}
+use mathlib.Core.Bool.{Bool, true, false, cond, not, _&&_, _||_}
+use lib.Dec.{leb, eqb}
+use lib.ListN.{length, getD, length-map, List·getD-map, length-append}
+use borrow.Author.Tests.{leb-true, not-true}
+use Rattle.words.specs.Words.{wordAt}
+use Rattle.words.specs.Runs.{run, total}
+use Rattle.words.proofs.RunLaws.{run-list, total-same}
+use Rattle.model.specs.Lists.{all}
+use Rattle.model.specs.Counts.{sequence}
+use Rattle.model.specs.Compiling.{productionPasses}
+use Rattle.model.specs.Tables.{Call, Production, Table}
+use Rattle.model.specs.declared.scan.Span.{Span}
+use Rattle.model.specs.declared.events.Detail.{Detail}
+use Rattle.model.specs.declared.events.KeptEvent.{KeptEvent}
+use Rattle.model.specs.declared.events.Directive.{Directive}
+use Rattle.tables.specs.Layout.{flag, isGiven, valueOf, flagsWord, lowWord, highWord, markWord, directiveWord, flat, eventsOf, callsOf, parametersOf, Entries, headerOf, entriesOf, sectionsOf, offset, capacities, image, encode}
+use Rattle.tables.specs.Layout.{productionEventsAt, productionCallsAt, codesAt, countsAt, setsAt, clearsAt, flagsAt, lowsAt, highsAt, marksAt, nameStartsAt, nameLengthsAt, callParametersAt, parameterStartsAt, parameterLengthsAt}
+use Rattle.tables.specs.Reading.{directiveOf, directiveIn, mergedIn, firstLengthIn, secondLengthIn, productionCount, eventCount, callCount, parameterCount, parameterAt, markAt, nameAt, callParameters, parametersFrom, callAt, eventOf, eventAt, productionEvents, productionCalls, eventsFrom, callsFrom, productionAt, decode}
+use Rattle.tables.specs.Fitting.{eventInRange, callInRange, fitting}
+use Rattle.tables.proofs.Lists.{each-getD, all-weaker, nested, length-flat, inAll-total}
+use Rattle.tables.proofs.EventWords.{RangeFacts, range-facts, flags-below, event-back}
+use Rattle.tables.proofs.Sizes.{length-expanded, length-le-size}
+use Rattle.tables.proofs.Facts.{FitFacts, fit-facts, TextFacts, text-facts, short-span, short-spans, short-names, short-facts, ProductionFacts, production-facts, LimitFacts, limit-facts, events-in-all, calls-in-all, parameters-in-all, few-parameters}
+use Rattle.tables.proofs.Images.{Room, section-word, length-image}
+
+-- ---- What stands at an unused place
+
+abbrev pub noEvent : KeptEvent
+noEvent = record { code = 0; set = 0; clear = 0; colon = false; clause = false; detail = Detail.Unspecified; count = 0 }
+
+abbrev pub noSpan : Span
+noSpan = record { start = 0; len = 0 }
+
+abbrev pub noCall : Call
+noCall = record { second = false; name = noSpan; parameters = [] }
+
+abbrev pub noProduction : Production
+noProduction = record { events = []; calls = [] }
+
+-- ---- Fields fit a word
+
+pub record EventSmall (e : KeptEvent) : Type 0 where
+  pub code : e .code < 256
+  pub count : e .count < 256
+  pub set : e .set < 8192
+  pub clear : e .clear < 8192
+  pub value : valueOf (e .detail) ≤ 0x1FFFFFFF
+
+none-small : EventSmall noEvent
+none-small = record { code = omega arith; count = omega arith; set = omega arith; clear = omega arith; value = omega arith }
+
+pub event-small : (e : KeptEvent) → eventInRange e ≡ true → EventSmall e
+event-small e h =
+    let r : RangeFacts e = range-facts e h in
+    record { code = omega arith; count = omega arith; set = r .setBelow; clear = r .clearBelow; value = r .detail }
+
+flag-small : (v : ℕ) (b : Bool) → flag v b ≤ v
+flag-small v true = omega arith
+flag-small v false = omega arith
+
+directive-small : (d : Directive) → directiveWord d ≤ 2
+directive-small Directive.Replace = omega arith
+directive-small Directive.Override = omega arith
+directive-small Directive.Augment = omega arith
+
+directive-back : (d : Directive) → directiveOf (directiveWord d) ≡ d
+directive-back Directive.Replace = refl
+directive-back Directive.Override = refl
+directive-back Directive.Augment = refl
+
+mark-back : (b : Bool) → eqb (flag 1 b) 1 ≡ b
+mark-back true = refl
+mark-back false = refl
+
+few-events : (p : Production) → ProductionFacts p → length (p .events) ≤ 24
+unfolding sequence
+few-events p r = omega (arith, r .size, length-expanded (p .events), length-le-size (p .events))
+
+module _ (t : Table) (fit : fitting t ≡ true) (rest : List ℕ) where
+  abbrev ps : List Production
+  ps = t .productions
+
+  abbrev es : List KeptEvent
+  es = eventsOf (t .productions)
+
+  abbrev cs : List Call
+  cs = callsOf (t .productions)
+
+  abbrev rs : List Span
+  rs = parametersOf (callsOf (t .productions))
+
+  abbrev l : List ℕ
+  l = encode t ++ rest
+
+  pub fits : FitFacts t
+  fits = fit-facts t fit
+
+  pub texts : TextFacts t
+  texts = text-facts t (fits .texts)
+
+  pub limits : LimitFacts ps
+  limits = limit-facts ps (fits .limit)
+
+  pub room : Room (entriesOf t)
+  unfolding entriesOf headerOf
+  room =
+      record {
+        header = omega arith;
+        productionEvents = omega (arith, length-map ps (λ (p : Production). length (p .events)), limits .productions);
+        productionCalls = omega (arith, length-map ps (λ (p : Production). length (p .calls)), limits .productions);
+        events = events-in-all ps limits;
+        calls = calls-in-all ps limits;
+        parameters = parameters-in-all ps limits;
+      }
+
+  word : (j i : ℕ) → i < getD capacities j 0 → getD (getD (sectionsOf (entriesOf t)) j []) i 0 < 65536
+      → wordAt l (offset capacities j + i) ≡ getD (getD (sectionsOf (entriesOf t)) j []) i 0
+  unfolding encode
+  word j i h b = section-word (entriesOf t) rest room j i h b
+
+  -- ---- Events
+
+  small : (i : ℕ) → EventSmall (getD es i noEvent)
+  small i = each-getD EventSmall eventInRange es noEvent none-small event-small (fits .events) i
+
+  pub code-word : (i : ℕ) → i < 256 → wordAt l (codesAt + i) ≡ (getD es i noEvent) .code
+  unfolding entriesOf sectionsOf
+  code-word i h =
+      let m : getD (map (λ x. x .code) es) i 0 ≡ (getD es i noEvent) .code = List·getD-map (λ x. x .code) es i noEvent in
+      word 3 i h (rw m (let b = small i .code in omega arith)) ∙ m
+
+  pub count-word : (i : ℕ) → i < 256 → wordAt l (countsAt + i) ≡ (getD es i noEvent) .count
+  unfolding entriesOf sectionsOf
+  count-word i h =
+      let m : getD (map (λ x. x .count) es) i 0 ≡ (getD es i noEvent) .count = List·getD-map (λ x. x .count) es i noEvent in
+      word 4 i h (rw m (let b = small i .count in omega arith)) ∙ m
+
+  pub set-word : (i : ℕ) → i < 256 → wordAt l (setsAt + i) ≡ (getD es i noEvent) .set
+  unfolding entriesOf sectionsOf
+  set-word i h =
+      let m : getD (map (λ x. x .set) es) i 0 ≡ (getD es i noEvent) .set = List·getD-map (λ x. x .set) es i noEvent in
+      word 5 i h (rw m (let b = small i .set in omega arith)) ∙ m
+
+  pub clear-word : (i : ℕ) → i < 256 → wordAt l (clearsAt + i) ≡ (getD es i noEvent) .clear
+  unfolding entriesOf sectionsOf
+  clear-word i h =
+      let m : getD (map (λ x. x .clear) es) i 0 ≡ (getD es i noEvent) .clear = List·getD-map (λ x. x .clear) es i noEvent in
+      word 6 i h (rw m (let b = small i .clear in omega arith)) ∙ m
+
+  pub flags-word : (i : ℕ) → i < 256 → wordAt l (flagsAt + i) ≡ flagsWord (getD es i noEvent)
+  unfolding entriesOf sectionsOf
+  flags-word i h =
+      let m : getD (map (λ x. flagsWord x) es) i 0 ≡ flagsWord (getD es i noEvent) = List·getD-map (λ x. flagsWord x) es i noEvent in
+      word 7 i h (rw m (let b = flags-below (getD es i noEvent .colon) (getD es i noEvent .clause) (isGiven (getD es i noEvent .detail)) in omega arith)) ∙ m
+
+  pub low-word : (i : ℕ) → i < 256 → wordAt l (lowsAt + i) ≡ lowWord (getD es i noEvent)
+  unfolding entriesOf sectionsOf
+  low-word i h =
+      let m : getD (map (λ x. lowWord x) es) i 0 ≡ lowWord (getD es i noEvent) = List·getD-map (λ x. lowWord x) es i noEvent in
+      word 8 i h (rw m (omega arith)) ∙ m
+
+  pub high-word : (i : ℕ) → i < 256 → wordAt l (highsAt + i) ≡ highWord (getD es i noEvent)
+  unfolding entriesOf sectionsOf
+  high-word i h =
+      let m : getD (map (λ x. highWord x) es) i 0 ≡ highWord (getD es i noEvent) = List·getD-map (λ x. highWord x) es i noEvent in
+      word 9 i h (rw m (let b = small i .value in omega arith)) ∙ m
+
+  event-read : (i : ℕ) → i < 256 → eventAt l i ≡ getD es i noEvent
+  unfolding eventAt
+  event-read i h =
+      rw (code-word i h, count-word i h, set-word i h, clear-word i h, flags-word i h, low-word i h, high-word i h)
+      (event-back (getD es i noEvent) (small i .code) (small i .count))
+
+  -- ---- Parameters
+
+  short-parameter : (i : ℕ) → getD rs i noSpan .start + getD rs i noSpan .len ≤ 8192
+  short-parameter i =
+      each-getD (λ (s : Span). s .start + s .len ≤ 8192) short-span rs noSpan (omega arith) short-facts (short-spans t texts cs (fits .calls)) i
+
+  pub parameter-start-word : (i : ℕ) → i < 256 → wordAt l (parameterStartsAt + i) ≡ (getD rs i noSpan) .start
+  unfolding entriesOf sectionsOf
+  parameter-start-word i h =
+      let m : getD (map (λ (x : Span). x .start) rs) i 0 ≡ (getD rs i noSpan) .start = List·getD-map (λ (x : Span). x .start) rs i noSpan in
+      word 14 i h (rw m (let b = short-parameter i in omega arith)) ∙ m
+
+  pub parameter-length-word : (i : ℕ) → i < 256 → wordAt l (parameterLengthsAt + i) ≡ (getD rs i noSpan) .len
+  unfolding entriesOf sectionsOf
+  parameter-length-word i h =
+      let m : getD (map (λ (x : Span). x .len) rs) i 0 ≡ (getD rs i noSpan) .len = List·getD-map (λ (x : Span). x .len) rs i noSpan in
+      word 15 i h (rw m (let b = short-parameter i in omega arith)) ∙ m
+
+  parameter-read : (i : ℕ) → i < 256 → parameterAt l i ≡ getD rs i noSpan
+  unfolding parameterAt
+  parameter-read i h = rw (parameter-start-word i h, parameter-length-word i h)
+
+  -- ---- Calls
+
+  short-name : (i : ℕ) → getD cs i noCall .name .start + getD cs i noCall .name .len ≤ 8192
+  short-name i =
+      each-getD (λ (c : Call). c .name .start + c .name .len ≤ 8192) (λ (c : Call). short-span (c .name)) cs noCall (omega arith) (λ c q. short-facts (c .name) q) (short-names t texts cs (fits .calls)) i
+
+  few-of : (i : ℕ) → length (getD cs i noCall .parameters) ≤ 8
+  few-of i =
+      each-getD (λ (c : Call). length (c .parameters) ≤ 8) (λ (c : Call). leb (length (c .parameters)) 8) cs noCall (omega arith) (λ c q. leb-true (length (c .parameters)) 8 q) (few-parameters ps limits) i
+
+  pub mark-word : (i : ℕ) → i < 128 → wordAt l (marksAt + i) ≡ markWord (getD cs i noCall)
+  unfolding entriesOf sectionsOf
+  mark-word i h =
+      let m : getD (map (λ (x : Call). markWord x) cs) i 0 ≡ markWord (getD cs i noCall) = List·getD-map (λ (x : Call). markWord x) cs i noCall in
+      word 10 i h (rw m (let b = flag-small 1 (getD cs i noCall .second) in omega arith)) ∙ m
+
+  pub name-start-word : (i : ℕ) → i < 128 → wordAt l (nameStartsAt + i) ≡ (getD cs i noCall) .name .start
+  unfolding entriesOf sectionsOf
+  name-start-word i h =
+      let m : getD (map (λ (x : Call). x .name .start) cs) i 0 ≡ (getD cs i noCall) .name .start = List·getD-map (λ (x : Call). x .name .start) cs i noCall in
+      word 11 i h (rw m (let b = short-name i in omega arith)) ∙ m
+
+  pub name-length-word : (i : ℕ) → i < 128 → wordAt l (nameLengthsAt + i) ≡ (getD cs i noCall) .name .len
+  unfolding entriesOf sectionsOf
+  name-length-word i h =
+      let m : getD (map (λ (x : Call). x .name .len) cs) i 0 ≡ (getD cs i noCall) .name .len = List·getD-map (λ (x : Call). x .name .len) cs i noCall in
+      word 12 i h (rw m (let b = short-name i in omega arith)) ∙ m
+
+  pub call-parameters-word : (i : ℕ) → i < 128 → wordAt l (callParametersAt + i) ≡ length ((getD cs i noCall) .parameters)
+  unfolding entriesOf sectionsOf
+  call-parameters-word i h =
+      let m : getD (map (λ (x : Call). length (x .parameters)) cs) i 0 ≡ length ((getD cs i noCall) .parameters) = List·getD-map (λ (x : Call). length (x .parameters)) cs i noCall in
+      word 13 i h (rw m (let b = few-of i in omega arith)) ∙ m
+
+  pub parameters-total : (i : ℕ) → i ≤ length cs → total (wordAt l) callParametersAt i ≡ total (λ q. length (getD cs q noCall .parameters)) 0 i
+  parameters-total i h =
+      total-same (wordAt l) (λ q. length (getD cs q noCall .parameters)) callParametersAt 0 i
+      (λ k q. rw zero-add (call-parameters-word k (omega (arith, room .calls, calls-in-all ps limits))))
+
+  call-read : (i : ℕ) → i < length cs → callAt l i ≡ getD cs i noCall
+  unfolding callAt markAt nameAt parametersFrom callParameters
+  call-read i h =
+      let b : i < 128 = omega (arith, calls-in-all ps limits) in
+      let q : i ≤ length cs = omega arith in
+      rw (
+        mark-word i b,
+        name-start-word i b,
+        name-length-word i b,
+        call-parameters-word i b,
+        parameters-total i q,
+        mark-back (getD cs i noCall .second),
+        nested (λ (c : Call). c .parameters) cs noCall noSpan (parameterAt l) i h
+            (λ k p. parameter-read k (omega (arith, parameters-in-all ps limits))),
+      )
+
+  -- ---- Productions
+
+  production-small : (i : ℕ) → (length (getD ps i noProduction .events) ≤ 24) × (length (getD ps i noProduction .calls) ≤ 8)
+  production-small i =
+      each-getD (λ (p : Production). (length (p .events) ≤ 24) × (length (p .calls) ≤ 8)) (λ (p : Production). not (productionPasses p)) ps noProduction
+      (omega arith, omega arith)
+      (λ p q. let r = production-facts p (not-true (productionPasses p) q) in (few-events p r, r .calls))
+      (limits .each) i
+
+  pub production-events-word : (i : ℕ) → i < 64 → wordAt l (productionEventsAt + i) ≡ length ((getD ps i noProduction) .events)
+  unfolding entriesOf sectionsOf
+  production-events-word i h =
+      let m : getD (map (λ (x : Production). length (x .events)) ps) i 0 ≡ length ((getD ps i noProduction) .events) = List·getD-map (λ (x : Production). length (x .events)) ps i noProduction in
+      word 1 i h (rw m (let b = production-small i .0 in omega arith)) ∙ m
+
+  pub production-calls-word : (i : ℕ) → i < 64 → wordAt l (productionCallsAt + i) ≡ length ((getD ps i noProduction) .calls)
+  unfolding entriesOf sectionsOf
+  production-calls-word i h =
+      let m : getD (map (λ (x : Production). length (x .calls)) ps) i 0 ≡ length ((getD ps i noProduction) .calls) = List·getD-map (λ (x : Production). length (x .calls)) ps i noProduction in
+      word 2 i h (rw m (let b = production-small i .1 in omega arith)) ∙ m
+
+  pub events-total : (i : ℕ) → i ≤ length ps → total (wordAt l) productionEventsAt i ≡ total (λ q. length (getD ps q noProduction .events)) 0 i
+  events-total i h =
+      total-same (wordAt l) (λ q. length (getD ps q noProduction .events)) productionEventsAt 0 i
+      (λ k q. rw zero-add (production-events-word k (omega (arith, limits .productions))))
+
+  pub calls-total : (i : ℕ) → i ≤ length ps → total (wordAt l) productionCallsAt i ≡ total (λ q. length (getD ps q noProduction .calls)) 0 i
+  calls-total i h =
+      total-same (wordAt l) (λ q. length (getD ps q noProduction .calls)) productionCallsAt 0 i
+      (λ k q. rw zero-add (production-calls-word k (omega (arith, limits .productions))))
+
+  production-read : (i : ℕ) → i < length ps → productionAt l i ≡ getD ps i noProduction
+  unfolding productionAt eventsFrom productionEvents callsFrom productionCalls
+  production-read i h =
+      let b : i < 64 = omega (arith, limits .productions) in
+      let q : i ≤ length ps = omega arith in
+      rw (
+        production-events-word i b,
+        production-calls-word i b,
+        events-total i q,
+        calls-total i q,
+        nested (λ (p : Production). p .events) ps noProduction noEvent (eventAt l) i h
+            (λ k p. event-read k (omega (arith, events-in-all ps limits))),
+        nested (λ (p : Production). p .calls) ps noProduction noCall (callAt l) i h (λ k p. call-read k p),
+      )
+
+  -- ---- The header
+
+  pub header-word : (k : ℕ) → k < 8 → getD (headerOf t) k 0 < 65536 → wordAt l k ≡ getD (headerOf t) k 0
+  unfolding entriesOf sectionsOf
+  header-word k h b = ap (wordAt l) (sym (zero-add k)) ∙ word 0 k h b
+
+  pub directive-word : wordAt l 0 ≡ directiveWord (t .directive)
+  unfolding headerOf
+  directive-word = header-word 0 (omega arith) (let b = directive-small (t .directive) in omega arith)
+
+  pub merged-word : wordAt l 1 ≡ flag 1 (t .merged)
+  unfolding headerOf
+  merged-word = header-word 1 (omega arith) (let b = flag-small 1 (t .merged) in omega arith)
+
+  pub first-word : wordAt l 2 ≡ t .firstLength
+  unfolding headerOf
+  first-word = header-word 2 (omega arith) (let b = texts .first in omega arith)
+
+  pub second-word : wordAt l 3 ≡ t .secondLength
+  unfolding headerOf
+  second-word = header-word 3 (omega arith) (let b = texts .second in omega arith)
+
+  pub productions-word : wordAt l 4 ≡ length ps
+  unfolding headerOf
+  productions-word = header-word 4 (omega arith) (let b = limits .productions in omega arith)
+
+  pub events-word : wordAt l 5 ≡ length es
+  unfolding headerOf
+  events-word = header-word 5 (omega arith) (let b = events-in-all ps limits in omega arith)
+
+  pub calls-word : wordAt l 6 ≡ length cs
+  unfolding headerOf
+  calls-word = header-word 6 (omega arith) (let b = calls-in-all ps limits in omega arith)
+
+  pub parameters-word : wordAt l 7 ≡ length rs
+  unfolding headerOf
+  parameters-word = header-word 7 (omega arith) (let b = parameters-in-all ps limits in omega arith)
+
+  -- ---- The table
+
+  -- a table that fits is read back from its bytes, whatever stands past them
+  pub decode-encode : decode (encode t ++ rest) ≡ t
+  unfolding decode directiveIn mergedIn firstLengthIn secondLengthIn productionCount
+  decode-encode =
+      rw (
+        directive-word,
+        merged-word,
+        first-word,
+        second-word,
+        productions-word,
+        directive-back (t .directive),
+        mark-back (t .merged),
+        run-list (productionAt l) 0 (length ps) ps noProduction refl (λ i h. rw zero-add (production-read i h)),
+      )

@@ -1,0 +1,14 @@
+pub mod Sections
+pub mod Lists
+pub mod EventWords
+pub mod Sizes
+pub mod Facts
+pub mod Images
+pub mod Encoded
+pub mod Theorems
+pub mod Checked
+pub mod CheckFacts
+pub mod Decoded
+pub mod Exact
+pub mod LoopLaws
+pub mod Written

@@ -1,0 +1,107 @@
+-- What `whole`, `encode` and `decode` are to each other.
+use Prim.Native.Nat.{ℕ, zero, suc, _+_, _*_, _-_, _≤_, _<_}
+use native.Mathlib.Omega.{arith}
+use mathlib.Core.Path.{_≡_, refl, sym, ap, _∙_}
+use mathlib.Core.List.{List, [], _∷_, _++_, map, append-nil}
+use mathlib.Core.Bool.{Bool, true, false, _&&_, false≢true}
+use lib.Dec.{eqb}
+use lib.ListN.{length, take, drop, take-append-drop, length-append}
+use lib.Seq.{take-at}
+use borrow.Author.Tests.{eqb-true, eq-eqb}
+use Rattle.words.specs.Words.{bytesOf, zeros}
+use Rattle.words.proofs.Bools.{and-left, and-right, and-both}
+use Rattle.words.proofs.Laws.{zeros-add}
+use Rattle.words.proofs.Images.{bytes-zeros}
+use Rattle.model.specs.Lists.{same}
+use Rattle.model.specs.Tables.{Table, emptyTable}
+use Rattle.tables.specs.Layout.{padded, joined, offset, capacities, tableLength, flat, headerOf, entriesOf, sectionsOf, image, encode}
+use Rattle.tables.specs.Reading.{decode}
+use Rattle.tables.specs.Fitting.{fitting}
+use Rattle.tables.specs.Whole.{whole}
+use Rattle.tables.proofs.Images.{length-image}
+use Rattle.tables.proofs.Encoded as encoded
+
+pub same-eq : (xs ys : List ℕ) → same xs ys ≡ true → xs ≡ ys
+same-eq [] [] e = refl
+same-eq [] (y ∷ ys) e = absurd (false≢true e)
+same-eq (x ∷ xs) [] e = absurd (false≢true e)
+same-eq (x ∷ xs) (y ∷ ys) e =
+    let p : x ≡ y = eqb-true x y (and-left (eqb x y) (same xs ys) e) in
+    let q : xs ≡ ys = same-eq xs ys (and-right (eqb x y) (same xs ys) e) in
+    rw (p, q)
+
+same-refl : (xs : List ℕ) → same xs xs ≡ true
+same-refl [] = refl
+same-refl (x ∷ xs) = and-both (eqb x x) (same xs xs) (eq-eqb x x refl) (same-refl xs)
+
+-- a table's bytes read as the table; bytes past them play no part
+pub decode-encode : (t : Table) → fitting t ≡ true → (rest : List ℕ) → decode (encode t ++ rest) ≡ t
+decode-encode t fit rest = encoded.decode-encode t fit rest
+
+pub length-encode : (t : Table) → fitting t ≡ true → length (encode t) ≡ tableLength
+unfolding encode
+length-encode t fit = length-image (entriesOf t) (encoded.room t fit [])
+
+-- the bytes of a table that fits are whole
+pub whole-encode : (t : Table) → fitting t ≡ true → (rest : List ℕ) → whole (encode t ++ rest) ≡ true
+unfolding whole
+whole-encode t fit rest =
+    rw (decode-encode t fit rest, take-at (encode t) rest tableLength (length-encode t fit))
+    (and-both (fitting t) (same (encode t) (encode t)) fit (same-refl (encode t)))
+
+-- bytes begin with the table's
+pub record Holds (t : Table) (l : List ℕ) : Type 0 where
+  pub fits : fitting t ≡ true
+  pub bytes : take tableLength l ≡ encode t
+
+pub whole-holds : (l : List ℕ) → whole l ≡ true → Holds (decode l) l
+unfolding whole
+whole-holds l e =
+    record {
+      fits = and-left (fitting (decode l)) (same (take tableLength l) (encode (decode l))) e;
+      bytes = same-eq (take tableLength l) (encode (decode l)) (and-right (fitting (decode l)) (same (take tableLength l) (encode (decode l))) e);
+    }
+
+pub holds-split : (t : Table) (l : List ℕ) → Holds t l → l ≡ encode t ++ drop tableLength l
+holds-split t l h = sym (take-append-drop tableLength l) ∙ ap (λ (a : List ℕ). a ++ drop tableLength l) (h .bytes)
+
+-- bytes are whole exactly if they begin with the bytes of a table that fits
+pub holds-whole : (t : Table) (l : List ℕ) → Holds t l → whole l ≡ true
+holds-whole t l h = rw (holds-split t l h) (whole-encode t (h .fits) (drop tableLength l))
+
+-- and that table is the one that they read as
+pub holds-decode : (t : Table) (l : List ℕ) → Holds t l → decode l ≡ t
+holds-decode t l h = rw (holds-split t l h) (decode-encode t (h .fits) (drop tableLength l))
+
+pub whole-length : (l : List ℕ) → whole l ≡ true → tableLength ≤ length l
+whole-length l e =
+    let h : Holds (decode l) l = whole-holds l e in
+    omega (arith, ap length (holds-split (decode l) l h), length-append (encode (decode l)) (drop tableLength l), length-encode (decode l) (h .fits))
+
+-- ---- The empty table
+
+zeros-none : [] ≡ zeros 0
+unfolding zeros
+zeros-none = refl
+
+pub joined-empty : (cs : List ℕ) → joined cs (map (λ c. []) cs) ≡ zeros (offset cs (length cs))
+unfolding joined padded
+joined-empty [] = zeros-none
+joined-empty (c ∷ cs) =
+    let e : c - 0 ≡ c = omega arith in
+    rw (e, joined-empty cs) (zeros-add c (offset cs (length cs)))
+
+header-empty : padded 8 (0 ∷ 0 ∷ 0 ∷ 0 ∷ 0 ∷ 0 ∷ 0 ∷ 0 ∷ []) ≡ zeros 8
+unfolding padded zeros
+header-empty = refl
+
+abbrev afterHeader : List ℕ
+afterHeader = 64 ∷ 64 ∷ 256 ∷ 256 ∷ 256 ∷ 256 ∷ 256 ∷ 256 ∷ 256 ∷ 128 ∷ 128 ∷ 128 ∷ 128 ∷ 256 ∷ 256 ∷ []
+
+words-empty : padded 8 (0 ∷ 0 ∷ 0 ∷ 0 ∷ 0 ∷ 0 ∷ 0 ∷ 0 ∷ []) ++ joined afterHeader (map (λ c. []) afterHeader) ≡ zeros 2952
+words-empty = rw (header-empty, joined-empty afterHeader) (zeros-add 8 2944)
+
+-- "After any other the compiler and merger leave the output table all zero, an empty table."
+pub encode-empty : encode emptyTable ≡ zeros tableLength
+unfolding encode image entriesOf sectionsOf headerOf flat joined
+encode-empty = ap bytesOf words-empty ∙ bytes-zeros 2952

@@ -1,0 +1,201 @@
+// The entries of a table, read by value. Each answer is a definition of specs/Reading on the bytes, whole or not.
+use model::events::Detail;
+use model::events::Directive;
+use model::events::KeptEvent;
+use model::scan::Span;
+
+ghost use mathlib.Core.Path.{_≡_};
+ghost use Prim.Native.Nat.{_+_, _*_, _≤_, _<_};
+ghost use lib.ListN.{length};
+ghost use Rattle.tables.specs.Reading.{directiveIn, mergedIn, firstLengthIn, secondLengthIn, productionCount, eventCount, callCount, parameterCount, parameterAt, markAt, nameAt, callParameters, parametersFrom, isFlag, detailOf, eventOf, eventAt, productionEvents, productionCalls, eventsFrom, callsFrom};
+
+// ---- The header
+
+pub fn directive(l: &[u8]) -> Directive
+    requires { ⌜ 5904 ≤ length (now l) ⌝ }
+    ensures { λ r. ⌜ r ≡ directiveIn (now (l .entry)) ⌝ }
+{
+    let w = words::word_at(l, 0);
+    if w == 1 {
+        return Directive::Override;
+    }
+    if w == 2 {
+        return Directive::Augment;
+    }
+    Directive::Replace
+}
+
+pub fn merged(l: &[u8]) -> bool
+    requires { ⌜ 5904 ≤ length (now l) ⌝ }
+    ensures { λ r. ⌜ r ≡ mergedIn (now (l .entry)) ⌝ }
+{
+    words::word_at(l, 1) == 1
+}
+
+pub fn first_length(l: &[u8]) -> usize
+    requires { ⌜ 5904 ≤ length (now l) ⌝ }
+    ensures { λ r. ⌜ r ≡ firstLengthIn (now (l .entry)) ⌝ }
+{
+    words::word_at(l, 2) as usize
+}
+
+pub fn second_length(l: &[u8]) -> usize
+    requires { ⌜ 5904 ≤ length (now l) ⌝ }
+    ensures { λ r. ⌜ r ≡ secondLengthIn (now (l .entry)) ⌝ }
+{
+    words::word_at(l, 3) as usize
+}
+
+pub fn production_count(l: &[u8]) -> usize
+    requires { ⌜ 5904 ≤ length (now l) ⌝ }
+    ensures { λ r. ⌜ r ≡ productionCount (now (l .entry)) ⌝ }
+{
+    words::word_at(l, 4) as usize
+}
+
+pub fn event_count(l: &[u8]) -> usize
+    requires { ⌜ 5904 ≤ length (now l) ⌝ }
+    ensures { λ r. ⌜ r ≡ eventCount (now (l .entry)) ⌝ }
+{
+    words::word_at(l, 5) as usize
+}
+
+pub fn call_count(l: &[u8]) -> usize
+    requires { ⌜ 5904 ≤ length (now l) ⌝ }
+    ensures { λ r. ⌜ r ≡ callCount (now (l .entry)) ⌝ }
+{
+    words::word_at(l, 6) as usize
+}
+
+pub fn parameter_count(l: &[u8]) -> usize
+    requires { ⌜ 5904 ≤ length (now l) ⌝ }
+    ensures { λ r. ⌜ r ≡ parameterCount (now (l .entry)) ⌝ }
+{
+    words::word_at(l, 7) as usize
+}
+
+// ---- Productions
+
+pub fn production_events(l: &[u8], p: usize) -> usize
+    requires { ⌜ (5904 ≤ length (now l)) × (p < 64) ⌝ }
+    ensures { λ r. ⌜ r ≡ productionEvents (now (l .entry)) p ⌝ }
+{
+    words::word_at(l, 8 + p) as usize
+}
+
+pub fn production_calls(l: &[u8], p: usize) -> usize
+    requires { ⌜ (5904 ≤ length (now l)) × (p < 64) ⌝ }
+    ensures { λ r. ⌜ r ≡ productionCalls (now (l .entry)) p ⌝ }
+{
+    words::word_at(l, 72 + p) as usize
+}
+
+// The place of a production's first event among all.
+pub fn events_from(l: &[u8], p: usize) -> usize
+    requires { ⌜ (5904 ≤ length (now l)) × (p ≤ 64) ⌝ }
+    ensures { λ r. ⌜ r ≡ eventsFrom (now (l .entry)) p ⌝ }
+{
+    words::sum(l, 8, p) as usize
+}
+
+// The place of a production's first call among all.
+pub fn calls_from(l: &[u8], p: usize) -> usize
+    requires { ⌜ (5904 ≤ length (now l)) × (p ≤ 64) ⌝ }
+    ensures { λ r. ⌜ r ≡ callsFrom (now (l .entry)) p ⌝ }
+{
+    words::sum(l, 72, p) as usize
+}
+
+// ---- Calls and parameters
+
+// Whether the call came from the second text.
+pub fn call_mark(l: &[u8], i: usize) -> bool
+    requires { ⌜ (5904 ≤ length (now l)) × (i < 128) ⌝ }
+    ensures { λ r. ⌜ r ≡ markAt (now (l .entry)) i ⌝ }
+{
+    words::word_at(l, 1928 + i) == 1
+}
+
+pub fn call_name(l: &[u8], i: usize) -> Span
+    requires { ⌜ (5904 ≤ length (now l)) × (i < 128) ⌝ }
+    ensures { λ r. ⌜ r ≡ nameAt (now (l .entry)) i ⌝ }
+{
+    Span {
+        start: words::word_at(l, 2056 + i) as usize,
+        len: words::word_at(l, 2184 + i) as usize,
+    }
+}
+
+pub fn call_parameters(l: &[u8], i: usize) -> usize
+    requires { ⌜ (5904 ≤ length (now l)) × (i < 128) ⌝ }
+    ensures { λ r. ⌜ r ≡ callParameters (now (l .entry)) i ⌝ }
+{
+    words::word_at(l, 2312 + i) as usize
+}
+
+// The place of a call's first parameter among all.
+pub fn parameters_from(l: &[u8], i: usize) -> usize
+    requires { ⌜ (5904 ≤ length (now l)) × (i ≤ 128) ⌝ }
+    ensures { λ r. ⌜ r ≡ parametersFrom (now (l .entry)) i ⌝ }
+{
+    words::sum(l, 2312, i) as usize
+}
+
+pub fn parameter_span(l: &[u8], i: usize) -> Span
+    requires { ⌜ (5904 ≤ length (now l)) × (i < 256) ⌝ }
+    ensures { λ r. ⌜ r ≡ parameterAt (now (l .entry)) i ⌝ }
+{
+    Span {
+        start: words::word_at(l, 2440 + i) as usize,
+        len: words::word_at(l, 2696 + i) as usize,
+    }
+}
+
+// ---- Events
+
+fn detail_of(flags: u16, low: u16, high: u16) -> Detail
+    ensures { λ r. ⌜ r ≡ detailOf (isFlag 4 flags) (low + 65536 * high) ⌝ }
+{
+    if flags / 4 % 2 == 1 {
+        Detail::Value(low as u32 + 65536 * (high as u32))
+    } else {
+        Detail::Unspecified
+    }
+}
+
+fn event_of(
+    code: u16,
+    count: u16,
+    set: u16,
+    clear: u16,
+    flags: u16,
+    low: u16,
+    high: u16,
+) -> KeptEvent
+    ensures { λ r. ⌜ r ≡ eventOf code count set clear flags low high ⌝ }
+{
+    KeptEvent {
+        code: (code % 256) as u8,
+        set,
+        clear,
+        colon: flags / 1 % 2 == 1,
+        clause: flags / 2 % 2 == 1,
+        detail: detail_of(flags, low, high),
+        count: (count % 256) as u8,
+    }
+}
+
+pub fn event_at(l: &[u8], i: usize) -> KeptEvent
+    requires { ⌜ (5904 ≤ length (now l)) × (i < 256) ⌝ }
+    ensures { λ r. ⌜ r ≡ eventAt (now (l .entry)) i ⌝ }
+{
+    event_of(
+        words::word_at(l, 136 + i),
+        words::word_at(l, 392 + i),
+        words::word_at(l, 648 + i),
+        words::word_at(l, 904 + i),
+        words::word_at(l, 1160 + i),
+        words::word_at(l, 1416 + i),
+        words::word_at(l, 1672 + i),
+    )
+}

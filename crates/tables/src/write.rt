@@ -1,0 +1,151 @@
+// Entries written into lent bytes, one a call. proofs/Written says what that does to the entries that the bytes hold.
+use model::events::Detail;
+use model::events::Directive;
+use model::events::KeptEvent;
+use model::scan::Span;
+
+ghost use mathlib.Core.Path.{_≡_};
+ghost use Prim.Native.Nat.{_+_, _*_, _≤_, _<_};
+ghost use lib.ListN.{length};
+ghost use Rattle.words.specs.Words.{cleared};
+ghost use Rattle.tables.specs.Layout.{flag, isGiven, valueOf, directiveWord, flagsWord};
+ghost use Rattle.tables.specs.Writing.{putTest, putDetail, putEvent, putCall, putParameter, putProduction, putTexts, putCounts};
+
+// The empty table.
+pub fn clear(out: &mut [u8])
+    requires { ⌜ 5904 ≤ length (now out) ⌝ }
+    ensures { λ r. ⌜ now (out .exit) ≡ cleared 5904 (now (out .entry)) ⌝ }
+{
+    words::clear(out, 5904);
+}
+
+fn flag_word(value: u16, is: bool) -> u16
+    ensures { λ r. ⌜ r ≡ flag value is ⌝ }
+{
+    if is { value } else { 0 }
+}
+
+// ---- Events
+
+fn is_given(d: Detail) -> bool
+    ensures { λ r. ⌜ r ≡ isGiven d ⌝ }
+{
+    match d {
+        Detail::Unspecified => false,
+        Detail::Value(_) => true,
+    }
+}
+
+fn value_of(d: Detail) -> u32
+    ensures { λ r. ⌜ r ≡ valueOf d ⌝ }
+{
+    match d {
+        Detail::Unspecified => 0,
+        Detail::Value(v) => v,
+    }
+}
+
+fn put_test(out: &mut [u8], i: usize, code: u16, count: u16, set: u16, clear: u16)
+    requires { ⌜ (5904 ≤ length (now out)) × (i < 256) ⌝ }
+    ensures { λ r. ⌜ now (out .exit) ≡ putTest (now (out .entry)) i code count set clear ⌝ }
+{
+    words::put_word(out, 136 + i, code);
+    words::put_word(out, 392 + i, count);
+    words::put_word(out, 648 + i, set);
+    words::put_word(out, 904 + i, clear);
+}
+
+fn put_detail(out: &mut [u8], i: usize, flags: u16, low: u16, high: u16)
+    requires { ⌜ (5904 ≤ length (now out)) × (i < 256) ⌝ }
+    ensures { λ r. ⌜ now (out .exit) ≡ putDetail (now (out .entry)) i flags low high ⌝ }
+{
+    words::put_word(out, 1160 + i, flags);
+    words::put_word(out, 1416 + i, low);
+    words::put_word(out, 1672 + i, high);
+}
+
+fn flags_of(colon: bool, clause: bool, given: bool) -> u16
+    ensures { λ r. ⌜ r ≡ flag 1 colon + flag 2 clause + flag 4 given ⌝ }
+{
+    flag_word(1, colon) + flag_word(2, clause) + flag_word(4, given)
+}
+
+pub fn put_event(out: &mut [u8], i: usize, e: KeptEvent)
+    requires { ⌜ (5904 ≤ length (now out)) × (i < 256) ⌝ }
+    ensures { λ r. ⌜ now (out .exit) ≡ putEvent (now (out .entry)) i e ⌝ }
+{
+    let code = e.code;
+    let count = e.count;
+    let d = e.detail;
+    let flags = flags_of(e.colon, e.clause, is_given(d));
+    let value = value_of(d);
+    put_test(out, i, code as u16, count as u16, e.set, e.clear);
+    put_detail(out, i, flags, (value % 65536) as u16, (value / 65536) as u16);
+}
+
+// ---- Calls and parameters
+
+pub fn put_call(out: &mut [u8], i: usize, second: bool, name: Span, parameters: usize)
+    requires { ⌜ ((5904 ≤ length (now out)) × (i < 128)) × ((name .start < 65536) × (name .len < 65536) × (parameters < 65536)) ⌝ }
+    ensures { λ r. ⌜ now (out .exit) ≡ putCall (now (out .entry)) i second name parameters ⌝ }
+{
+    let start = name.start;
+    let len = name.len;
+    words::put_word(out, 1928 + i, flag_word(1, second));
+    words::put_word(out, 2056 + i, start as u16);
+    words::put_word(out, 2184 + i, len as u16);
+    words::put_word(out, 2312 + i, parameters as u16);
+}
+
+pub fn put_parameter(out: &mut [u8], i: usize, s: Span)
+    requires { ⌜ ((5904 ≤ length (now out)) × (i < 256)) × ((s .start < 65536) × (s .len < 65536)) ⌝ }
+    ensures { λ r. ⌜ now (out .exit) ≡ putParameter (now (out .entry)) i s ⌝ }
+{
+    let start = s.start;
+    let len = s.len;
+    words::put_word(out, 2440 + i, start as u16);
+    words::put_word(out, 2696 + i, len as u16);
+}
+
+// ---- Productions
+
+// How many events and calls a production has.
+pub fn put_production(out: &mut [u8], p: usize, events: usize, calls: usize)
+    requires { ⌜ ((5904 ≤ length (now out)) × (p < 64)) × ((events < 65536) × (calls < 65536)) ⌝ }
+    ensures { λ r. ⌜ now (out .exit) ≡ putProduction (now (out .entry)) p events calls ⌝ }
+{
+    words::put_word(out, 8 + p, events as u16);
+    words::put_word(out, 72 + p, calls as u16);
+}
+
+// ---- The header
+
+fn directive_word(d: Directive) -> u16
+    ensures { λ r. ⌜ r ≡ directiveWord d ⌝ }
+{
+    match d {
+        Directive::Replace => 0,
+        Directive::Override => 1,
+        Directive::Augment => 2,
+    }
+}
+
+pub fn put_texts(out: &mut [u8], directive: Directive, merged: bool, first: usize, second: usize)
+    requires { ⌜ (5904 ≤ length (now out)) × ((first < 65536) × (second < 65536)) ⌝ }
+    ensures { λ r. ⌜ now (out .exit) ≡ putTexts (now (out .entry)) directive merged first second ⌝ }
+{
+    words::put_word(out, 0, directive_word(directive));
+    words::put_word(out, 1, flag_word(1, merged));
+    words::put_word(out, 2, first as u16);
+    words::put_word(out, 3, second as u16);
+}
+
+pub fn put_counts(out: &mut [u8], productions: usize, events: usize, calls: usize, parameters: usize)
+    requires { ⌜ (5904 ≤ length (now out)) × ((productions < 65536) × (events < 65536) × (calls < 65536) × (parameters < 65536)) ⌝ }
+    ensures { λ r. ⌜ now (out .exit) ≡ putCounts (now (out .entry)) productions events calls parameters ⌝ }
+{
+    words::put_word(out, 4, productions as u16);
+    words::put_word(out, 5, events as u16);
+    words::put_word(out, 6, calls as u16);
+    words::put_word(out, 7, parameters as u16);
+}
