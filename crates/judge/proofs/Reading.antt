@@ -1,7 +1,7 @@
 -- A modifier list read from a position on: what was read so far, with what is left, is the whole.
 use Prim.Native.Nat.{ℕ, pred, _+_, _≤_, _<_}
 use native.Mathlib.Omega.{arith}
-use mathlib.Core.Path.{_≡_, refl, sym, ap, _∙_}
+use mathlib.Core.Path.{_≡_, refl, sym, ap, subst, _∙_}
 use mathlib.Core.Bool.{Bool}
 use mathlib.Core.List.{List, [], _∷_, _++_, append-assoc, append-nil}
 use lib.ListN.{length}
@@ -10,6 +10,7 @@ use Rattle.model.specs.Events.{Modifier, name, keysym, listed, Modifiers, modif
 use Rattle.model.specs.Names.{modifierNamed}
 use Rattle.model.specs.declared.scan.ModifierRead.{ModifierRead}
 use Rattle.scanner.specs.ModifierLists.{modifiersIn}
+use Rattle.scanner.proofs.Ranges.{ModifierIn, modifier-in}
 use Rattle.scanner.proofs.ListSteps.{modifiers-step}
 use Rattle.judge.specs.declared.lists.ListSummary.{ListSummary}
 use Rattle.judge.specs.Summary.{summaryOf, withName, withKeysym, SummaryIn}
@@ -24,9 +25,14 @@ after-none : (m : Modifiers) → modifiersIn m ≡ afterAll [] m
 after-none Modifiers.broken = refl
 after-none (modifiers ns end) = refl
 
-after-more : (ms : List Modifier) (m : Modifier) (rest : Modifiers) → afterAll ms (oneMore m rest) ≡ afterAll (ms ++ (m ∷ [])) rest
+after-more : (ms : List Modifier) (m : Modifier) (rest : Modifiers)
+    → afterAll ms (oneMore m rest) ≡ afterAll (ms ++ (m ∷ [])) rest
 after-more ms m Modifiers.broken = refl
 after-more ms m (modifiers ns end) = sym (append-assoc ms (m ∷ []) ns)
+
+-- where the modifier that is read stands
+pub read-place : (l : List ℕ) (i : ℕ) (m : ModifierRead) → i ≤ length l → modifierAt l i ≡ m → ModifierIn (length l) i m
+read-place l i m h e = subst (ModifierIn (length l) i) e (modifier-in l i h)
 
 -- at position i, s is the value of the modifiers read so far
 pub record Read (l : List ℕ) (bang colon : Bool) (at : ℕ) (s : ListSummary) (i : ℕ) : Type 0 where

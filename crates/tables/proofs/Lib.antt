@@ -12,3 +12,8 @@ pub mod Decoded
 pub mod Exact
 pub mod LoopLaws
 pub mod Written
+pub mod Positions
+pub mod CallSpans
+pub mod EventsRead
+pub mod JudgedRange
+pub mod CompiledFits

@@ -17,7 +17,10 @@ adds-shift-requires c κs = search needs
 
 returns : tie.Need-returns
 unfolding colonMisplaced
-returns c = ap₂ (λ (a b : Bool). c .before .before .before .before .args .s .colon && (not a || b)) (c .before .before .before .is-key .ensures) (ap₂ _||_ (c .before .before .lists-standard .ensures) (c .before .adds-shift .ensures))
+returns c =
+    ap₂ (λ (a b : Bool). c .before .before .before .before .args .s .colon && (not a || b))
+    (c .before .before .before .is-key .ensures)
+    (ap₂ _||_ (c .before .before .lists-standard .ensures) (c .before .adds-shift .ensures))
 
 pub colon-misplaced-spec : {M : Type 1} → statement M
 colon-misplaced-spec =

@@ -26,7 +26,13 @@ digit-value-requires c κs = search needs
 
 returns-2 : tie.Need-returns-2
 unfolding countSummary countOf
-returns-2 c = rw (not-false (c .before .before .before .before .before .before .args .counted) (c .before .before .before .before .if1 .left)) (ap₂ (λ b v. record { bad = b; unbuilt = c .before .before .before .before .before .before .args .plus; value = v }) (ap₂ (λ a b. not a || not b) (c .before .before .before .takes-count .ensures) (c .before .before .is-one-digit .ensures)) (c .digit-value .ensures ∙ ap (λ (b : ℕ). b - 48) (c .before .first-byte .ensures)))
+returns-2 c =
+    rw (not-false (c .before .before .before .before .before .before .args .counted)
+    (c .before .before .before .before .if1 .left))
+    (ap₂ (λ b v. record { bad = b; unbuilt = c .before .before .before .before .before .before .args .plus; value = v })
+    (ap₂ (λ a b. not a || not b) (c .before .before .before .takes-count .ensures)
+    (c .before .before .is-one-digit .ensures))
+    (c .digit-value .ensures ∙ ap (λ (b : ℕ). b - 48) (c .before .first-byte .ensures)))
 
 pub count-of-spec : {M : Type 1} → statement M
 count-of-spec =

@@ -25,10 +25,18 @@ of-read-requires-2 : tie.Need-of-read-requires-2
 of-read-requires-2 c κs = search needs
 
 returns-2 : tie.Need-returns-2
-returns-2 c = c .of-read .ensures ∙ sym (detail-fixed (c .before .before .before .before .before .args .ty) (c .before .before .before .before .before .args .word .now) _ (c .before .before .before .if1 .left) (c .before .enum-told .given .1))
+returns-2 c =
+    c .of-read .ensures ∙ sym
+    (detail-fixed (c .before .before .before .before .before .args .ty)
+    (c .before .before .before .before .before .args .word .now) _ (c .before .before .before .if1 .left)
+    (c .before .enum-told .given .1))
 
 returns-3 : tie.Need-returns-3
-returns-3 c = c .of-read2 .ensures ∙ ap readSummary (c .before .detail-named .ensures) ∙ sym (detail-named (c .before .before .before .before .before .before .args .ty) (c .before .before .before .before .before .before .args .word .now) (c .before .before .before .before .if1 .left) (c .before .before .enum-told2 .given .1))
+returns-3 c =
+    c .of-read2 .ensures ∙ ap readSummary (c .before .detail-named .ensures) ∙ sym
+    (detail-named (c .before .before .before .before .before .before .args .ty)
+    (c .before .before .before .before .before .before .args .word .now) (c .before .before .before .before .if1 .left)
+    (c .before .before .enum-told2 .given .1))
 
 pub detail-of-spec : {M : Type 1} → statement M
 detail-of-spec =

@@ -12,7 +12,9 @@ first-byte-requires : tie.Need-first-byte-requires
 first-byte-requires c κs = search needs
 
 returns : tie.Need-returns
-returns c = ap (λ (b : ℕ). eqb (length (c .before .before .args .digits .now)) 1 && (leb 49 b && leb b 57)) (c .first-byte .ensures)
+returns c =
+    ap (λ (b : ℕ). eqb (length (c .before .before .args .digits .now)) 1 && (leb 49 b && leb b 57))
+    (c .first-byte .ensures)
 
 pub is-one-digit-spec : {M : Type 1} → statement M
 is-one-digit-spec = tie.close (tie.spec first-byte-requires returns)

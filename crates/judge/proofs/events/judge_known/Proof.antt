@@ -16,7 +16,11 @@ judge-parts-requires c κs = search needs
 
 returns : tie.Need-returns
 unfolding judgedBy
-returns c = c .judge-parts .ensures ∙ ap₂ (judgedParts (c .before .before .before .before .before .args .s) (c .before .before .before .before .before .args .ty)) (c .before .before .count-of .ensures) (c .before .detail-of .ensures)
+returns c =
+    c .judge-parts .ensures ∙ ap₂
+    (judgedParts (c .before .before .before .before .before .args .s)
+    (c .before .before .before .before .before .args .ty)) (c .before .before .count-of .ensures)
+    (c .before .detail-of .ensures)
 
 pub judge-known-spec : {M : Type 1} → statement M
 judge-known-spec =

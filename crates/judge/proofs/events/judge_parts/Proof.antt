@@ -7,16 +7,27 @@ use borrow.Author.Needs.{needs}
 use Rattle.judge.proofs.events.judge_parts.Statement.{statement}
 use Rattle.judge.proofs.events.judge_parts.Tie as tie
 
+-- where the function begins, and where all six checks are made
+abbrev start : tie.After-event-order → tie.Start
+start c = c .before .before .before .before .before .before .before .before .before .before .before .before .before .before .before .before
+
+abbrev made : tie.After-event-order → tie.After-no-state-meets
+made c = c .before .before .before .before .before .before .before .before .before
+
 -- the number that was picked
 number : (c : tie.After-event-order)
-    → c .event-order .result ≡ partsNumber (c .before .before .before .before .before .before .before .before .before .before .before .before .before .before .before .before .args .s) (c .before .before .before .before .before .before .before .before .before .before .before .before .before .before .before .before .args .ty) (c .before .before .before .before .before .before .before .before .before .before .before .before .before .before .before .before .args .c) (c .before .before .before .before .before .before .before .before .before .before .before .before .before .before .before .before .args .d)
+    → c .event-order .result
+    ≡ partsNumber (start c .args .s) (start c .args .ty) (start c .args .c) (start c .args .d)
 number c =
+    let m = made c in
     c .event-order .ensures
-    ∙ parts-number (c .before .before .before .before .before .before .before .before .before .before .before .before .before .before .before .before .args .s) (c .before .before .before .before .before .before .before .before .before .before .before .before .before .before .before .before .args .ty) (c .before .before .before .before .before .before .before .before .before .before .before .before .before .before .before .before .args .c) (c .before .before .before .before .before .before .before .before .before .before .before .before .before .before .before .before .args .d)
-    (c .before .before .before .before .before .before .before .before .before .before .before .before .before .before .before .set-of .result) (c .before .before .before .before .before .before .before .before .before .before .before .before .before .before .clear-of .result) (c .before .before .before .before .before .before .before .before .before .before .before .before .before .clause-of .result)
-    (c .before .before .before .before .before .before .before .before .before .before .before .before .before .before .before .set-of .ensures) (c .before .before .before .before .before .before .before .before .before .before .before .before .before .before .clear-of .ensures) (c .before .before .before .before .before .before .before .before .before .before .before .before .before .clause-of .ensures)
-    (c .before .before .before .before .before .before .before .before .before .before .before .before .adds-meta .result) (c .before .before .before .before .before .before .before .before .before .before .before .takes-modifiers .result) (c .before .before .before .before .before .before .before .before .before .before .colon-misplaced .result) (c .before .before .before .before .before .before .before .before .before .no-state-meets .result)
-    (c .before .before .before .before .before .before .before .before .before .before .before .before .adds-meta .ensures) (c .before .before .before .before .before .before .before .before .before .before .before .takes-modifiers .ensures) (c .before .before .before .before .before .before .before .before .before .before .colon-misplaced .ensures) (c .before .before .before .before .before .before .before .before .before .no-state-meets .ensures)
+    ∙ parts-number (start c .args .s) (start c .args .ty) (start c .args .c) (start c .args .d)
+    (m .before .before .before .before .before .before .set-of .result) (m .before .before .before .before .before .clear-of .result) (m .before .before .before .before .clause-of .result)
+    (m .before .before .before .before .before .before .set-of .ensures) (m .before .before .before .before .before .clear-of .ensures) (m .before .before .before .before .clause-of .ensures)
+    (m .before .before .before .adds-meta .result) (m .before .before .takes-modifiers .result) (m .before .colon-misplaced .result)
+    (m .no-state-meets .result)
+    (m .before .before .before .adds-meta .ensures) (m .before .before .takes-modifiers .ensures) (m .before .colon-misplaced .ensures)
+    (m .no-state-meets .ensures)
 
 set-of-requires : tie.Need-set-of-requires
 set-of-requires c κs = search needs
@@ -37,13 +48,17 @@ colon-misplaced-requires : tie.Need-colon-misplaced-requires
 colon-misplaced-requires c κs = search needs
 
 no-state-meets-requires : tie.Need-no-state-meets-requires
-no-state-meets-requires c κs = (rw (c .before .before .before .before .before .set-of .ensures) (set-below _ _), rw (c .before .before .before .before .clear-of .ensures) (clear-below _))
+no-state-meets-requires c κs =
+    (rw (c .before .before .before .before .before .set-of .ensures) (set-below _ _), rw (c .before .before .before .before .clear-of .ensures) (clear-below _))
 
 event-order-requires : tie.Need-event-order-requires
 event-order-requires c κs = search needs
 
 returns : tie.Need-returns
-returns c = keeps _ _ _ _ _ _ _ (c .before .before .before .before .before .before .before .before .before .before .before .before .before .before .before .before .set-of .ensures) (c .before .before .before .before .before .before .before .before .before .before .before .before .before .before .before .clear-of .ensures) (c .before .before .before .before .before .before .before .before .before .before .before .before .before .before .clause-of .ensures) _ (number (c .before)) (c .if1 .taken)
+returns c =
+    let m = made (c .before) in
+    keeps _ _ _ _ _ _ _ (m .before .before .before .before .before .before .set-of .ensures) (m .before .before .before .before .before .clear-of .ensures) (m .before .before .before .before .clause-of .ensures)
+    _ (number (c .before)) (c .if1 .taken)
 
 returns-2 : tie.Need-returns-2
 returns-2 c = refuses _ _ _ _ _ (number (c .before)) (c .if1 .left)

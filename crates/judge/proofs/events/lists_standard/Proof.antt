@@ -20,7 +20,9 @@ bit-requires-4 c κs = search needs
 
 returns : tie.Need-returns
 unfolding hasStandard
-returns c = ap₂ _||_ (ap₂ _||_ (c .before .before .before .bit .ensures) (c .before .before .bit2 .ensures)) (ap₂ _||_ (c .before .bit3 .ensures) (c .bit4 .ensures))
+returns c =
+    ap₂ _||_ (ap₂ _||_ (c .before .before .before .bit .ensures) (c .before .before .bit2 .ensures))
+    (ap₂ _||_ (c .before .bit3 .ensures) (c .bit4 .ensures))
 
 pub lists-standard-spec : {M : Type 1} → statement M
 lists-standard-spec =

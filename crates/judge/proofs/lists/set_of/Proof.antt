@@ -23,16 +23,22 @@ enum-told-3 : tie.Need-enum-told-3
 enum-told-3 c = search needs
 
 returns : tie.Need-returns
-returns c = rw (c .enum-told .given .1) (sym (set-unchanged (c .before .before .args .set) Added.Nothing (search needs) (λ k. refl)))
+returns c =
+    rw (c .enum-told .given .1)
+    (sym (set-unchanged (c .before .before .args .set) Added.Nothing (search needs) (λ k. refl)))
 
 returns-2 : tie.Need-returns-2
 returns-2 c = rw (c .before .before .added .given .1) (c .with-bit .ensures ∙ sym (set-added _ _))
 
 returns-3 : tie.Need-returns-3
-returns-3 c = rw (c .enum-told2 .given .1) (sym (set-unchanged (c .before .before .args .set) Added.AnyButton (search needs) (λ k. refl)))
+returns-3 c =
+    rw (c .enum-told2 .given .1)
+    (sym (set-unchanged (c .before .before .args .set) Added.AnyButton (search needs) (λ k. refl)))
 
 returns-4 : tie.Need-returns-4
-returns-4 c = rw (c .enum-told3 .given .1) (sym (set-unchanged (c .before .before .args .set) Added.Meta (search needs) (λ k. refl)))
+returns-4 c =
+    rw (c .enum-told3 .given .1)
+    (sym (set-unchanged (c .before .before .args .set) Added.Meta (search needs) (λ k. refl)))
 
 pub set-of-spec : {M : Type 1} → statement M
 set-of-spec =

@@ -15,14 +15,22 @@ enum-known-name : tie.Need-enum-known-name
 enum-known-name c = search needs
 
 with-bit-requires : tie.Need-with-bit-requires
-with-bit-requires c κs = (c .before .before .before .before .pre .0 .clear, subst NameIn (c .before .before .name .given .1) (c .before .before .before .before .pre .1))
+with-bit-requires c κs = (
+  c .before .before .before .before .pre .0 .clear,
+  subst NameIn (c .before .before .name .given .1)
+      (c .before .before .before .before .pre .1),
+)
 
 returns : tie.Need-returns
 unfolding withName
 returns c = rw (c .before .before .before .name .given .1, c .before .if1 .taken, c .with-bit .ensures)
 
 with-bit-requires-2 : tie.Need-with-bit-requires-2
-with-bit-requires-2 c κs = (c .before .before .before .before .pre .0 .set, subst NameIn (c .before .before .name .given .1) (c .before .before .before .before .pre .1))
+with-bit-requires-2 c κs = (
+  c .before .before .before .before .pre .0 .set,
+  subst NameIn (c .before .before .name .given .1)
+      (c .before .before .before .before .pre .1),
+)
 
 returns-2 : tie.Need-returns-2
 unfolding withName

@@ -13,7 +13,9 @@ use Rattle.judge.proofs.spans.count_at.Tie as tie
 span : (c : tie.After-known-told)
     → CountSpanIn (length (c .before .before .before .before .args .l .now))
     (CountSpan.Digits (c .before .count .given .0 .0) (c .before .count .given .0 .1 .0) (c .before .count .given .0 .1 .1 .0))
-span c = subst (CountSpanIn (length (c .before .before .before .before .args .l .now))) (c .before .count .given .1) (c .before .before .before .before .pre)
+span c =
+    subst (CountSpanIn (length (c .before .before .before .before .args .l .now))) (c .before .count .given .1)
+    (c .before .before .before .before .pre)
 
 enum-told : tie.Need-enum-told
 enum-told c = search needs

@@ -46,14 +46,29 @@ detail-of-requires : tie.Need-detail-of-requires
 detail-of-requires c κs = search needs
 
 judge-parts-requires : tie.Need-judge-parts-requires
-judge-parts-requires c κs = (rw (c .before .before .before .list-of .ensures) (summary-in _), type-in _ _ (sym (c .before .before .before .before .before .before .before .type-named .ensures) ∙ c .before .before .before .before .before .ty .given .1) .added)
+judge-parts-requires c κs = (
+  rw (c .before .before .before .list-of .ensures) (summary-in _),
+  type-in _ _ (sym (c .before .before .before .before .before .before .before .type-named .ensures)
+      ∙ c .before .before .before .before .before .ty .given .1) .added,
+)
 
 returns : tie.Need-returns
 unfolding judgedWritten
-returns c = sym (ap (judgedAs (writtenIn (c .before .before .before .before .before .before .before .before .args .l .now) (c .before .before .before .before .before .before .before .before .args .e))) (sym (c .before .before .type-named .ensures) ∙ c .enum-told .given .1))
+returns c =
+    sym
+    (ap (judgedAs (writtenIn (c .before .before .before .before .before .before .before .before .args .l .now)
+    (c .before .before .before .before .before .before .before .before .args .e)))
+    (sym (c .before .before .type-named .ensures) ∙ c .enum-told .given .1))
 
 returns-2 : tie.Need-returns-2
-returns-2 c = c .judge-parts .ensures ∙ judged-from (writtenIn (c .before .before .before .before .before .before .before .before .before .before .before .before .before .before .args .l .now) (c .before .before .before .before .before .before .before .before .before .before .before .before .before .before .args .e)) _ _ _ _ (sym (c .before .before .before .before .before .before .before .before .type-named .ensures) ∙ c .before .before .before .before .before .before .ty .given .1) (c .before .before .before .before .list-of .ensures) (c .before .before .before .count-at .ensures) (c .before .detail-of .ensures)
+returns-2 c =
+    let known = sym (c .before .before .before .before .before .before .before .before .type-named .ensures)
+    ∙ c .before .before .before .before .before .before .ty .given .1 in
+    c .judge-parts .ensures
+    ∙ judged-from (writtenIn
+    (c .before .before .before .before .before .before .before .before .before .before .before .before .before .before .args .l .now) (c .before .before .before .before .before .before .before .before .before .before .before .before .before .before .args .e)) _ _ _ _ known
+    (c .before .before .before .before .list-of .ensures) (c .before .before .before .count-at .ensures)
+    (c .before .detail-of .ensures)
 
 pub judge-event-spec : {M : Type 1} → statement M
 judge-event-spec =
