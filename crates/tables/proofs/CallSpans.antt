@@ -1,12 +1,11 @@
 -- The calls of a line: their names and parameters are parts of it.
 use Prim.Native.Nat.{ℕ, zero, suc, _+_, _-_, _≤_, _<_}
 use native.Mathlib.Omega.{arith}
-use mathlib.Core.Path.{_≡_, refl, sym, ap, _∙_}
-use mathlib.Core.List.{List, [], _∷_, _++_}
-use mathlib.Core.Bool.{Bool, true, false, cond}
+use mathlib.Core.Path.{_≡_}
+use mathlib.Core.List.{List, [], _∷_}
+use mathlib.Core.Bool.{cond}
 use lib.Dec.{eqb, leb}
 use lib.ListN.{length}
-use borrow.Author.Tests.{leb-false}
 use Rattle.model.specs.Bytes.{signAt, runEnd, skip}
 use Rattle.model.specs.Calls.{WrittenCall, span, parameterEnd, quotedFrom, unquotedFrom, parameterFrom, parameterAt, Parameters, parameters, parametersNext, parametersFrom, parametersPast, parametersAt, callNameFrom, callFrom, callAt, CallsRead, calls, oneMoreCall, withParameters, callsNext, callsFrom, rightSide}
 use Rattle.model.specs.declared.scan.Class.{Class}
@@ -42,17 +41,17 @@ end-good l start end at p q =
     cond-both (ParameterGood (length l)) (signAt l at ",") (ParameterRead.More start end (at + 1)) (cond (signAt l at ")") (ParameterRead.Last start end (at + 1)) ParameterRead.Broken)
     (λ e. let h = sign-within l at 43 e in (p, q, omega arith))
     (λ _. cond-both (ParameterGood (length l)) (signAt l at ")") (ParameterRead.Last start end (at + 1)) ParameterRead.Broken
-      (λ e. let h = sign-within l at 40 e in (p, q, omega arith)) (λ _. tt))
+    (λ e. let h = sign-within l at 40 e in (p, q, omega arith)) (λ _. tt))
 
 parameter-good : (l : List ℕ) (at : ℕ) → at ≤ length l → ParameterGood (length l) (parameterFrom l at)
 unfolding parameterFrom quotedFrom unquotedFrom
 parameter-good l at h =
     cond-both (ParameterGood (length l)) (signAt l at "\"") (quotedFrom l (at + 1) (runEnd Class.Quoted l (at + 1))) (unquotedFrom l at (runEnd Class.Unquoted l at))
     (λ e. let q = sign-within l at 33 e in
-      let b : at + 1 ≤ length l = omega arith in
-      cond-both (ParameterGood (length l)) (leb (length l) (runEnd Class.Quoted l (at + 1))) ParameterRead.Broken (parameterEnd l (at + 1) (runEnd Class.Quoted l (at + 1)) (skip l (runEnd Class.Quoted l (at + 1) + 1)))
-      (λ _. tt)
-      (λ _. end-good l (at + 1) (runEnd Class.Quoted l (at + 1)) (skip l (runEnd Class.Quoted l (at + 1) + 1)) (run-from Class.Quoted l (at + 1)) (run-within Class.Quoted l (at + 1) b)))
+    let b : at + 1 ≤ length l = omega arith in
+    cond-both (ParameterGood (length l)) (leb (length l) (runEnd Class.Quoted l (at + 1))) ParameterRead.Broken (parameterEnd l (at + 1) (runEnd Class.Quoted l (at + 1)) (skip l (runEnd Class.Quoted l (at + 1) + 1)))
+    (λ _. tt)
+    (λ _. end-good l (at + 1) (runEnd Class.Quoted l (at + 1)) (skip l (runEnd Class.Quoted l (at + 1) + 1)) (run-from Class.Quoted l (at + 1)) (run-within Class.Quoted l (at + 1) b)))
     (λ _. end-good l at (runEnd Class.Unquoted l at) (skip l (runEnd Class.Unquoted l at)) (run-from Class.Unquoted l at) (run-within Class.Unquoted l at h))
 
 abbrev ParametersGood : ℕ → Parameters → Type 0
@@ -93,9 +92,9 @@ name-good l at =
     cond-both (NameGood (length l)) (leb (length l) at) CallRead.End (callNameFrom l at (runEnd Class.Call l at))
     (λ _. tt)
     (λ e. cond-both (NameGood (length l)) (eqb (runEnd Class.Call l at) at) CallRead.Broken (cond (signAt l (runEnd Class.Call l at) "(") (CallRead.Name at (runEnd Class.Call l at)) CallRead.Broken)
-      (λ _. tt)
-      (λ _. cond-both (NameGood (length l)) (signAt l (runEnd Class.Call l at) "(") (CallRead.Name at (runEnd Class.Call l at)) CallRead.Broken
-        (λ q. (run-from Class.Call l at, sign-within l (runEnd Class.Call l at) 39 q)) (λ _. tt)))
+    (λ _. tt)
+    (λ _. cond-both (NameGood (length l)) (signAt l (runEnd Class.Call l at) "(") (CallRead.Name at (runEnd Class.Call l at)) CallRead.Broken
+    (λ q. (run-from Class.Call l at, sign-within l (runEnd Class.Call l at) 39 q)) (λ _. tt)))
 
 abbrev pub CallsGood : ℕ → CallsRead → Type 0
 CallsGood n CallsRead.broken = Unit

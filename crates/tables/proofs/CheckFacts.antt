@@ -1,16 +1,16 @@
 -- What the checks say of each word.
-use Prim.Native.Nat.{ℕ, zero, suc, _+_, _*_, _-_, _≤_, _<_}
+use Prim.Native.Nat.{ℕ, _+_, _-_, _≤_, _<_}
 use native.Mathlib.Omega.{arith}
 use native.Mathlib.Nat.{zero-add}
-use mathlib.Core.Path.{_≡_, refl, sym, ap, _∙_}
-use mathlib.Core.List.{List, [], _∷_, _++_}
-use mathlib.Core.Bool.{Bool, true, false, cond, not, _&&_, _||_, false≢true}
+use mathlib.Core.Path.{_≡_, refl}
+use mathlib.Core.List.{List, [], _∷_}
+use mathlib.Core.Bool.{Bool, true, false, cond, _&&_, _||_, false≢true}
 use lib.Dec.{leb, ltb, eqb}
-use lib.ListN.{length, getD}
+use lib.ListN.{length}
 use borrow.Author.Tests.{leb-true, ltb-false, eqb-true}
 use Rattle.words.specs.Words.{wordAt}
 use Rattle.words.specs.Runs.{total, every}
-use Rattle.words.proofs.Bools.{and-left, and-right, chain, chain-parts, AllTrue}
+use Rattle.words.proofs.Bools.{and-left, and-right, chain-parts}
 use Rattle.words.proofs.RunLaws.{every-at, total-part}
 use Rattle.tables.specs.Layout.{productionEventsAt, productionCallsAt, codesAt, countsAt, setsAt, clearsAt, flagsAt, lowsAt, highsAt, marksAt, nameStartsAt, nameLengthsAt, callParametersAt, parameterStartsAt, parameterLengthsAt, tableLength}
 use Rattle.tables.specs.Checks.{textWordsOk, countWordsOk, headerOk, sumsOk, restZero, productionsRest, testsRest, detailsRest, callsRest, parametersRest, unusedOk, eventOk, callOk, callWordsOk, parametersOk, sizeAt, productionOk, entriesOk, checks, textOf}
@@ -117,7 +117,7 @@ pub record CallWordFacts (l : List ℕ) (i : ℕ) : Type 0 where
   pub parameters : wordAt l (callParametersAt + i) ≤ 8
   pub name : wordAt l (nameStartsAt + i) + wordAt l (nameLengthsAt + i) ≤ textOf (wordAt l (marksAt + i)) (wordAt l 2) (wordAt l 3)
 
-call-word-facts : (l : List ℕ) (i : ℕ) → callOk l i ≡ true → CallWordFacts l i
+pub call-word-facts : (l : List ℕ) (i : ℕ) → callOk l i ≡ true → CallWordFacts l i
 unfolding callOk callWordsOk
 call-word-facts l i e =
     let r = chain-parts (leb (wordAt l (marksAt + i)) (wordAt l 1)) (leb (wordAt l (callParametersAt + i)) 8 ∷ leb (wordAt l (nameStartsAt + i) + wordAt l (nameLengthsAt + i)) (textOf (wordAt l (marksAt + i)) (wordAt l 2) (wordAt l 3)) ∷ []) e in

@@ -1,32 +1,32 @@
 -- The bytes of a table that fits pass the checks.
-use Prim.Native.Nat.{ℕ, zero, suc, _+_, _*_, _-_, _%_, _/_, _≤_, _<_}
+use Prim.Native.Nat.{ℕ, _+_, _-_, _≤_, _<_}
 use native.Mathlib.Omega.{arith}
 use native.Mathlib.Nat.{zero-add, add-assoc}
 use mathlib.Core.Path.{_≡_, refl, sym, ap, _∙_}
 use mathlib.Core.List.{List, [], _∷_, _++_}
-use mathlib.Core.Bool.{Bool, true, false, cond, not, _&&_, _||_, false≢true}
-use lib.Dec.{leb, ltb, eqb}
+use mathlib.Core.Bool.{Bool, true, false, not, _||_, false≢true}
+use lib.Dec.{leb, eqb}
 use lib.ListN.{length, getD, length-append, List·getD-eq-default}
 use borrow.Author.Tests.{leb-true, le-leb, le-ltb, eq-eqb, not-true}
 use Rattle.words.specs.Words.{wordAt}
-use Rattle.words.specs.Runs.{run, total, every, isZero}
-use Rattle.words.proofs.Bools.{and-both, chain, chain-all, AllTrue}
+use Rattle.words.specs.Runs.{total, every, isZero}
+use Rattle.words.proofs.Bools.{and-both, chain-all}
 use Rattle.words.proofs.RunLaws.{total-same, total-part, every-all}
-use Rattle.model.specs.Lists.{all, inAll}
+use Rattle.model.specs.Lists.{inAll}
 use Rattle.model.specs.Counts.{sequence}
 use Rattle.model.specs.Compiling.{productionPasses}
 use Rattle.model.specs.Tables.{Call, Production, Table}
 use Rattle.model.specs.declared.scan.Span.{Span}
 use Rattle.model.specs.declared.events.KeptEvent.{KeptEvent}
 use Rattle.model.specs.declared.events.Directive.{Directive}
-use Rattle.tables.specs.Layout.{flag, flagsWord, lowWord, highWord, markWord, directiveWord, flat, eventsOf, callsOf, parametersOf, encode, tableLength}
+use Rattle.tables.specs.Layout.{flag, flagsWord, lowWord, highWord, markWord, directiveWord, eventsOf, callsOf, parametersOf, encode, tableLength}
 use Rattle.tables.specs.Layout.{productionEventsAt, productionCallsAt, codesAt, countsAt, setsAt, clearsAt, flagsAt, lowsAt, highsAt, marksAt, nameStartsAt, nameLengthsAt, callParametersAt, parameterStartsAt, parameterLengthsAt}
 use Rattle.tables.specs.Fitting.{eventInRange, spanInText, textLength, callInRange, hasEvent, fitting}
-use Rattle.tables.specs.Checks.{textWordsOk, countWordsOk, headerOk, sumsOk, restZero, productionsRest, testsRest, detailsRest, callsRest, parametersRest, unusedOk, eventWordsOk, eventOk, textOf, callWordsOk, callOk, parameterOk, parametersOk, sizeOf, sizeAt, productionOk, entriesOk, checks}
+use Rattle.tables.specs.Checks.{textWordsOk, countWordsOk, headerOk, sumsOk, restZero, productionsRest, testsRest, detailsRest, callsRest, parametersRest, unusedOk, eventOk, textOf, callWordsOk, callOk, parameterOk, parametersOk, sizeAt, productionOk, entriesOk, checks}
 use Rattle.tables.proofs.Lists.{all-at, flat-at, length-flat, inAll-total, inAll-flat, inAll-le}
 use Rattle.tables.proofs.EventWords.{range-words}
 use Rattle.tables.proofs.Sizes.{eventSize, length-expanded}
-use Rattle.tables.proofs.Facts.{FitFacts, TextFacts, CallFacts, call-facts, ProductionFacts, production-facts, LimitFacts, events-in-all, calls-in-all, parameters-in-all, few-parameters}
+use Rattle.tables.proofs.Facts.{CallFacts, call-facts, ProductionFacts, production-facts, events-in-all, calls-in-all, parameters-in-all, few-parameters}
 use Rattle.tables.proofs.Encoded as enc
 use Rattle.tables.proofs.Encoded.{noEvent, noSpan, noCall, noProduction}
 use Rattle.tables.proofs.Theorems.{length-encode}

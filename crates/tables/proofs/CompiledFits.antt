@@ -1,23 +1,22 @@
 -- Every table that a text compiles to fits.
 use Prim.Native.Nat.{ℕ, zero, suc, _+_, _-_, _≤_, _<_}
 use native.Mathlib.Omega.{arith}
-use mathlib.Core.Path.{_≡_, refl, sym, ap, _∙_}
+use mathlib.Core.Path.{_≡_, refl, ap}
 use mathlib.Core.List.{List, [], _∷_, _++_, map, append-nil}
-use mathlib.Core.Bool.{Bool, true, false, cond, not, _&&_, _||_, false≢true}
+use mathlib.Core.Bool.{Bool, true, false, cond, not, _||_}
 use mathlib.Core.Option.{Option, none, some}
-use lib.Dec.{eqb, leb, ltb}
-use lib.ListN.{length, getD, take, drop, length-drop}
-use borrow.Author.Tests.{le-leb, leb-true, leb-false, ltb-false, eqb-true, not-false}
-use Rattle.words.proofs.Bools.{and-left, and-right, and-both, chain, chain-all}
-use Rattle.model.specs.Lists.{all, any, earliest, part}
-use Rattle.model.specs.Bytes.{isTab, isNewline, inRange, isAllowed, firstBadByte, runEnd}
+use lib.Dec.{leb, ltb}
+use lib.ListN.{length, take, drop, length-drop}
+use borrow.Author.Tests.{le-leb, leb-true, leb-false, ltb-false, eqb-true}
+use Rattle.words.proofs.Bools.{and-right, and-both, chain-all}
+use Rattle.model.specs.Lists.{all, earliest}
+use Rattle.model.specs.Bytes.{isTab, isNewline, inRange, isAllowed, firstBadByte}
 use Rattle.model.specs.Lines.{lineEnd, lineAt, isBlankLine, directiveAt}
 use Rattle.model.specs.Events.{WrittenEvent, EventsRead, events, leftSide}
 use Rattle.model.specs.Calls.{WrittenCall, CallsRead, calls, rightSide}
 use Rattle.model.specs.Judging.{judged}
-use Rattle.model.specs.Tables.{Call, Production, Table, emptyTable}
-use Rattle.model.specs.Compiling.{productionPasses, totalsPass, passesLimit, LineRead, production, withCalls, withEvents, lineRead, EventsJudged, keep, keepOneMore, judgedNext, judgedAll, inText, callOf, LineOutcome, add, counted, lineJudged, lineFrom, lineOutcome, Outcome, accepted, refused, tableOf, goOn, afterLine, afterDirective, linesFrom, linesOf, afterBytes, compiled}
-use Rattle.model.specs.declared.scan.Class.{Class}
+use Rattle.model.specs.Tables.{Production, Table}
+use Rattle.model.specs.Compiling.{totalsPass, passesLimit, withCalls, withEvents, lineRead, EventsJudged, keep, keepOneMore, judgedNext, judgedAll, inText, callOf, LineOutcome, add, lineJudged, lineFrom, lineOutcome, Outcome, accepted, refused, tableOf, goOn, afterLine, afterDirective, linesFrom, linesOf, afterBytes, compiled}
 use Rattle.model.specs.declared.scan.Span.{Span}
 use Rattle.model.specs.declared.events.KeptEvent.{KeptEvent}
 use Rattle.model.specs.declared.events.Directive.{Directive}
@@ -26,12 +25,12 @@ use Rattle.tables.specs.Layout.{flat, eventsOf, callsOf, encode}
 use Rattle.tables.specs.Reading.{decode}
 use Rattle.tables.specs.Whole.{whole}
 use Rattle.tables.proofs.Theorems.{whole-encode, decode-encode}
-use Rattle.tables.specs.Fitting.{eventInRange, spanInText, callInRange, textsInRange, hasEvent, fitting}
+use Rattle.tables.specs.Fitting.{eventInRange, spanInText, callInRange, hasEvent, fitting}
 use Rattle.tables.proofs.Lists.{flat-append, all-append}
-use Rattle.tables.proofs.Facts.{FitFacts, facts-fit, TextFacts, facts-text, CallFacts, facts-call}
-use Rattle.tables.proofs.Positions.{cond-both, run-within, Small, small-take, small-drop}
+use Rattle.tables.proofs.Facts.{facts-fit, facts-text}
+use Rattle.tables.proofs.Positions.{cond-both, Small, small-take, small-drop}
 use Rattle.tables.proofs.CallSpans.{Within, AllWithin, CallWithin, CallsWithin, CallsGood, calls-good}
-use Rattle.tables.proofs.EventsRead.{WrittenSmall, AllSmall, Some, Good, left-good}
+use Rattle.tables.proofs.EventsRead.{AllSmall, Some, Good, left-good}
 use Rattle.tables.proofs.JudgedRange.{InRange, judged-range}
 
 -- ---- Events
@@ -213,8 +212,8 @@ unfolding isAllowed
 allowed-small b e =
     or-cases (isTab b || isNewline b || inRange 32 b 126) (inRange 160 b 255) e
     (λ p. or-cases (isTab b || isNewline b) (inRange 32 b 126) p
-      (λ q. or-cases (isTab b) (isNewline b) q (λ r. let h = eqb-true b 9 r in omega arith) (λ r. let h = eqb-true b 10 r in omega arith))
-      (λ q. let h = leb-true b 126 (and-right (leb 32 b) (leb b 126) q) in omega arith))
+    (λ q. or-cases (isTab b) (isNewline b) q (λ r. let h = eqb-true b 9 r in omega arith) (λ r. let h = eqb-true b 10 r in omega arith))
+    (λ q. let h = leb-true b 126 (and-right (leb 32 b) (leb b 126) q) in omega arith))
     (λ p. let h = leb-true b 255 (and-right (leb 160 b) (leb b 255) p) in omega arith)
 
 some-none : {P : Type 0} (i : ℕ) → _≡_ {A = Option ℕ} (some i) none → P

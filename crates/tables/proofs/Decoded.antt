@@ -1,13 +1,13 @@
 -- Bytes that pass the checks are those of the table that they read as, and that table fits.
-use Prim.Native.Nat.{ℕ, zero, suc, _+_, _*_, _-_, _%_, _/_, _≤_, _<_}
+use Prim.Native.Nat.{ℕ, zero, suc, _+_, _-_, _≤_, _<_}
 use native.Mathlib.Omega.{arith}
-use native.Mathlib.Nat.{zero-add, add-assoc}
+use native.Mathlib.Nat.{zero-add}
 use mathlib.Core.Path.{_≡_, refl, sym, ap, _∙_}
-use mathlib.Core.List.{List, [], _∷_, _++_, map}
-use mathlib.Core.Bool.{Bool, true, false, cond, not, _&&_, _||_, false≢true}
-use lib.Dec.{leb, ltb, eqb}
-use lib.ListN.{length, getD, take, drop, length-append}
-use borrow.Author.Tests.{leb-true, le-leb, eqb-true, eq-eqb, ne-eqb}
+use mathlib.Core.List.{List, [], _∷_, map}
+use mathlib.Core.Bool.{Bool, true, false, not, _||_}
+use lib.Dec.{leb, eqb}
+use lib.ListN.{length, getD, take}
+use borrow.Author.Tests.{le-leb, eqb-true}
 use Rattle.words.specs.Words.{wordAt, bytesOf, zeros}
 use Rattle.words.specs.Runs.{run, total, every, isZero}
 use Rattle.words.proofs.Images.{word-below, bytes-run}
@@ -19,17 +19,16 @@ use Rattle.model.specs.Compiling.{productionPasses, passesLimit}
 use Rattle.model.specs.Tables.{Call, Production, Table}
 use Rattle.model.specs.declared.scan.Span.{Span}
 use Rattle.model.specs.declared.events.KeptEvent.{KeptEvent}
-use Rattle.model.specs.declared.events.Directive.{Directive}
-use Rattle.tables.specs.Layout.{flag, flagsWord, lowWord, highWord, markWord, directiveWord, flat, eventsOf, callsOf, parametersOf, padded, joined, offset, capacities, Entries, headerOf, entriesOf, sectionsOf, image, encode, tableLength}
+use Rattle.tables.specs.Layout.{flag, flagsWord, lowWord, highWord, markWord, directiveWord, eventsOf, callsOf, parametersOf, padded, joined, offset, capacities, headerOf, entriesOf, sectionsOf, image, encode, tableLength}
 use Rattle.tables.specs.Layout.{productionEventsAt, productionCallsAt, codesAt, countsAt, setsAt, clearsAt, flagsAt, lowsAt, highsAt, marksAt, nameStartsAt, nameLengthsAt, callParametersAt, parameterStartsAt, parameterLengthsAt}
-use Rattle.tables.specs.Reading.{directiveOf, directiveIn, mergedIn, firstLengthIn, secondLengthIn, productionCount, parameterAt, markAt, nameAt, callParameters, parametersFrom, callAt, eventOf, eventAt, productionEvents, productionCalls, eventsFrom, callsFrom, productionAt, decode}
-use Rattle.tables.specs.Fitting.{eventInRange, spanInText, textLength, callInRange, textsInRange, hasEvent, fitting}
-use Rattle.tables.specs.Checks.{restZero, eventOk, textOf, parameterOk, parametersOk, sizeAt, checks}
+use Rattle.tables.specs.Reading.{directiveOf, directiveIn, mergedIn, firstLengthIn, secondLengthIn, productionCount, parameterAt, markAt, nameAt, callParameters, parametersFrom, callAt, eventAt, productionEvents, productionCalls, eventsFrom, callsFrom, productionAt, decode}
+use Rattle.tables.specs.Fitting.{eventInRange, spanInText, callInRange, textsInRange, hasEvent, fitting}
+use Rattle.tables.specs.Checks.{restZero, eventOk, textOf, parameterOk, parametersOk, sizeAt}
 use Rattle.tables.proofs.Lists.{all-run, flat-runs, length-flat, inAll-flat, inAll-le, inAll-run}
 use Rattle.tables.proofs.EventWords.{words-range, code-back, count-back, set-back, clear-back, flags-word-back, low-word-back, high-word-back}
 use Rattle.tables.proofs.Sizes.{eventSize, length-expanded}
-use Rattle.tables.proofs.Facts.{FitFacts, facts-fit, TextFacts, facts-text, CallFacts, facts-call, ProductionFacts, facts-production, LimitFacts, facts-limit}
-use Rattle.tables.proofs.CheckFacts.{CheckFacts, HeaderFacts, SumFacts, RestFacts, CallWordFacts, ProductionWordFacts, events-within, calls-within, parameters-within}
+use Rattle.tables.proofs.Facts.{facts-fit, facts-text, facts-call, facts-production, facts-limit}
+use Rattle.tables.proofs.CheckFacts.{CheckFacts, HeaderFacts, RestFacts, CallWordFacts, events-within, calls-within}
 
 directive-back : (w : ℕ) → w ≤ 2 → directiveWord (directiveOf w) ≡ w
 directive-back zero h = refl
@@ -98,13 +97,13 @@ module _ (l : List ℕ) (bytes : (i : ℕ) → getD l i 0 < 256) (facts : CheckF
 
   -- ---- Entries in production order
 
-  events-flat : eventsOf (decode l .productions) ≡ run (eventAt l) 0 (wordAt l 5)
+  pub events-flat : eventsOf (decode l .productions) ≡ run (eventAt l) 0 (wordAt l 5)
   unfolding decode productionCount productionAt eventsFrom productionEvents
   events-flat =
       flat-runs (λ (p : Production). p .events) (productionAt l) (eventAt l) (wordAt l) productionEventsAt (wordAt l 4) (λ p. refl)
       ∙ ap (run (eventAt l) 0) (facts .sums .events)
 
-  calls-flat : callsOf (decode l .productions) ≡ run (callAt l) 0 (wordAt l 6)
+  pub calls-flat : callsOf (decode l .productions) ≡ run (callAt l) 0 (wordAt l 6)
   unfolding decode productionCount productionAt callsFrom productionCalls
   calls-flat =
       flat-runs (λ (p : Production). p .calls) (productionAt l) (callAt l) (wordAt l) productionCallsAt (wordAt l 4) (λ p. refl)
@@ -296,7 +295,7 @@ module _ (l : List ℕ) (bytes : (i : ℕ) → getD l i 0 < 256) (facts : CheckF
       (λ i h. rw (zero-add, length-run (eventAt l) (eventsFrom l i) (wordAt l (productionEventsAt + i)))
       (le-leb 1 (wordAt l (productionEventsAt + i)) (facts .productions i h .events)))
 
-  event-range : (i : ℕ) → i < wordAt l 5 → eventInRange (eventAt l i) ≡ true
+  pub event-range : (i : ℕ) → i < wordAt l 5 → eventInRange (eventAt l i) ≡ true
   unfolding eventAt eventOk
   event-range i h = words-range (wordAt l (codesAt + i)) (wordAt l (countsAt + i)) (wordAt l (setsAt + i)) (wordAt l (clearsAt + i)) (wordAt l (flagsAt + i)) (wordAt l (lowsAt + i)) (wordAt l (highsAt + i)) (facts .events i h) (word-below l bytes (lowsAt + i))
 
@@ -330,7 +329,7 @@ module _ (l : List ℕ) (bytes : (i : ℕ) → getD l i 0 < 256) (facts : CheckF
 
   -- ---- Limits
 
-  production-size : (p : ℕ) → p < wordAt l 4 → length (sequence (productionAt l p)) ≤ 24
+  pub production-size : (p : ℕ) → p < wordAt l 4 → length (sequence (productionAt l p)) ≤ 24
   unfolding sequence productionAt eventsFrom productionEvents
   production-size p h =
       let from : ℕ = total (wordAt l) productionEventsAt p in

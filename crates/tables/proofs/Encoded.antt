@@ -1,17 +1,16 @@
 -- A table within limits and ranges, as bytes, reads as itself.
-use Prim.Native.Nat.{ℕ, zero, suc, _+_, _*_, _-_, _%_, _/_, _≤_, _<_}
+use Prim.Native.Nat.{ℕ, _+_, _-_, _≤_, _<_}
 use native.Mathlib.Omega.{arith}
 use native.Mathlib.Nat.{zero-add}
 use mathlib.Core.Path.{_≡_, refl, sym, ap, _∙_}
-use mathlib.Core.List.{List, [], _∷_, _++_, map}
-use mathlib.Core.Bool.{Bool, true, false, cond, not, _&&_, _||_}
+use mathlib.Core.List.{List, [], _++_, map}
+use mathlib.Core.Bool.{Bool, true, false, not}
 use lib.Dec.{leb, eqb}
-use lib.ListN.{length, getD, length-map, List·getD-map, length-append}
+use lib.ListN.{length, getD, length-map, List·getD-map}
 use borrow.Author.Tests.{leb-true, not-true}
 use Rattle.words.specs.Words.{wordAt}
-use Rattle.words.specs.Runs.{run, total}
+use Rattle.words.specs.Runs.{total}
 use Rattle.words.proofs.RunLaws.{run-list, total-same}
-use Rattle.model.specs.Lists.{all}
 use Rattle.model.specs.Counts.{sequence}
 use Rattle.model.specs.Compiling.{productionPasses}
 use Rattle.model.specs.Tables.{Call, Production, Table}
@@ -19,15 +18,15 @@ use Rattle.model.specs.declared.scan.Span.{Span}
 use Rattle.model.specs.declared.events.Detail.{Detail}
 use Rattle.model.specs.declared.events.KeptEvent.{KeptEvent}
 use Rattle.model.specs.declared.events.Directive.{Directive}
-use Rattle.tables.specs.Layout.{flag, isGiven, valueOf, flagsWord, lowWord, highWord, markWord, directiveWord, flat, eventsOf, callsOf, parametersOf, Entries, headerOf, entriesOf, sectionsOf, offset, capacities, image, encode}
+use Rattle.tables.specs.Layout.{flag, isGiven, valueOf, flagsWord, lowWord, highWord, markWord, directiveWord, eventsOf, callsOf, parametersOf, headerOf, entriesOf, sectionsOf, offset, capacities, encode}
 use Rattle.tables.specs.Layout.{productionEventsAt, productionCallsAt, codesAt, countsAt, setsAt, clearsAt, flagsAt, lowsAt, highsAt, marksAt, nameStartsAt, nameLengthsAt, callParametersAt, parameterStartsAt, parameterLengthsAt}
-use Rattle.tables.specs.Reading.{directiveOf, directiveIn, mergedIn, firstLengthIn, secondLengthIn, productionCount, eventCount, callCount, parameterCount, parameterAt, markAt, nameAt, callParameters, parametersFrom, callAt, eventOf, eventAt, productionEvents, productionCalls, eventsFrom, callsFrom, productionAt, decode}
-use Rattle.tables.specs.Fitting.{eventInRange, callInRange, fitting}
-use Rattle.tables.proofs.Lists.{each-getD, all-weaker, nested, length-flat, inAll-total}
+use Rattle.tables.specs.Reading.{directiveOf, directiveIn, mergedIn, firstLengthIn, secondLengthIn, productionCount, parameterAt, markAt, nameAt, callParameters, parametersFrom, callAt, eventAt, productionEvents, productionCalls, eventsFrom, callsFrom, productionAt, decode}
+use Rattle.tables.specs.Fitting.{eventInRange, fitting}
+use Rattle.tables.proofs.Lists.{each-getD, nested}
 use Rattle.tables.proofs.EventWords.{RangeFacts, range-facts, flags-below, event-back}
 use Rattle.tables.proofs.Sizes.{length-expanded, length-le-size}
 use Rattle.tables.proofs.Facts.{FitFacts, fit-facts, TextFacts, text-facts, short-span, short-spans, short-names, short-facts, ProductionFacts, production-facts, LimitFacts, limit-facts, events-in-all, calls-in-all, parameters-in-all, few-parameters}
-use Rattle.tables.proofs.Images.{Room, section-word, length-image}
+use Rattle.tables.proofs.Images.{Room, section-word}
 
 -- ---- What stands at an unused place
 

@@ -1,13 +1,13 @@
 -- An event as words and back.
 use Prim.Native.Nat.{ℕ, zero, suc, _+_, _*_, _-_, _%_, _/_, _≤_, _<_}
 use native.Mathlib.Omega.{arith}
-use native.Mathlib.Nat.{zero-add, mod-eq-of-lt, div-add-mod, mod-add-div, add-mul-mod-self-left, add-mul-div-left, div-eq-of-lt}
-use mathlib.Core.Path.{_≡_, refl, sym, ap, _∙_}
+use native.Mathlib.Nat.{zero-add, mod-eq-of-lt, mod-add-div, add-mul-mod-self-left, add-mul-div-left, div-eq-of-lt}
+use mathlib.Core.Path.{_≡_, refl, ap, _∙_}
 use mathlib.Core.List.{List, [], _∷_}
-use mathlib.Core.Bool.{Bool, true, false, cond, _&&_, _||_, not, false≢true}
+use mathlib.Core.Bool.{Bool, true, false, _&&_, _||_}
 use lib.Dec.{leb, ltb, eqb}
-use borrow.Author.Tests.{leb-true, ltb-true, eqb-true, le-leb, lt-ltb, eq-eqb, ltb-false, leb-false}
-use Rattle.words.proofs.Bools.{and-left, and-right, and-both, chain, chain-parts, chain-all, AllTrue}
+use borrow.Author.Tests.{leb-true, ltb-true, eqb-true, le-leb, lt-ltb, eq-eqb}
+use Rattle.words.proofs.Bools.{and-left, and-right, and-both, chain-parts, chain-all, AllTrue}
 use Rattle.model.specs.declared.events.Detail.{Detail}
 use Rattle.model.specs.declared.events.KeptEvent.{KeptEvent}
 use Rattle.tables.specs.Layout.{flag, isGiven, valueOf, flagsWord, lowWord, highWord}

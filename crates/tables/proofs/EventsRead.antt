@@ -1,15 +1,14 @@
 -- The events of a line: at least one, and what is kept of their bytes are bytes.
-use Prim.Native.Nat.{ℕ, zero, suc, _+_, _-_, _≤_, _<_}
-use native.Mathlib.Omega.{arith}
-use mathlib.Core.Path.{_≡_, refl, sym, ap, _∙_}
+use Prim.Native.Nat.{ℕ, zero, suc, _+_, _-_, _<_}
+use mathlib.Core.Path.{_≡_, sym, _∙_}
 use mathlib.Core.List.{List, [], _∷_, _++_}
-use mathlib.Core.Bool.{Bool, true, false, cond, false≢true}
+use mathlib.Core.Bool.{true, false, cond, false≢true}
 use mathlib.Core.Option.{Option, none, some}
-use lib.Dec.{eqb, leb}
-use lib.ListN.{length, take, drop}
+use lib.Dec.{leb}
+use lib.ListN.{length, drop}
 use Rattle.model.specs.Lists.{part}
 use Rattle.model.specs.Bytes.{isTab, byteAt, signAt, runEnd, skip}
-use Rattle.model.specs.Events.{Modifiers, modifiers, ModifierList, Count, Written, KeyChar, WrittenEvent, event, key, leadAt, listOf, modifiersAt, typeAt, countAt, EventsRead, events, withDetail, withCount, withType, withList, withModifiers, plainEventAt, markedKey, keyAt, oneMoreKey, keysNext, keysFrom, keySequenceAt, eventsFrom, eventsAt, afterEventFrom, afterEventAt, joinEvents, afterEvents, leftNext, leftFrom, leftSide}
+use Rattle.model.specs.Events.{Modifiers, modifiers, ModifierList, Count, KeyChar, WrittenEvent, event, key, leadAt, listOf, modifiersAt, typeAt, countAt, EventsRead, events, withDetail, withCount, withType, withList, withModifiers, plainEventAt, markedKey, keyAt, oneMoreKey, keysNext, keysFrom, keySequenceAt, eventsFrom, eventsAt, afterEventAt, joinEvents, afterEvents, leftNext, leftFrom, leftSide}
 use Rattle.model.specs.declared.scan.Class.{Class}
 use Rattle.model.specs.declared.scan.Lead.{Lead}
 use Rattle.model.specs.declared.scan.TypeRead.{TypeRead}
@@ -93,9 +92,9 @@ rest-going l at s =
     cond-both Going (signAt l at "^") (markedKey l KeyMark.Control (at + 1)) (cond (signAt l at "\\") (markedKey l KeyMark.Quoted (at + 1)) (cond (signAt l at "$") (markedKey l KeyMark.Meta (at + 1)) (markedKey l KeyMark.Plain at)))
     (λ _. marked-going l KeyMark.Control (at + 1) s)
     (λ _. cond-both Going (signAt l at "\\") (markedKey l KeyMark.Quoted (at + 1)) (cond (signAt l at "$") (markedKey l KeyMark.Meta (at + 1)) (markedKey l KeyMark.Plain at))
-      (λ _. marked-going l KeyMark.Quoted (at + 1) s)
-      (λ _. cond-both Going (signAt l at "$") (markedKey l KeyMark.Meta (at + 1)) (markedKey l KeyMark.Plain at)
-        (λ _. marked-going l KeyMark.Meta (at + 1) s) (λ _. marked-going l KeyMark.Plain at s)))
+    (λ _. marked-going l KeyMark.Quoted (at + 1) s)
+    (λ _. cond-both Going (signAt l at "$") (markedKey l KeyMark.Meta (at + 1)) (markedKey l KeyMark.Plain at)
+    (λ _. marked-going l KeyMark.Meta (at + 1) s) (λ _. marked-going l KeyMark.Plain at s)))
 
 going-good : (r : KeyRead) → Going r → KeyGood r
 going-good KeyRead.Broken g = tt
@@ -108,7 +107,7 @@ key-good l at s =
     cond-both KeyGood (leb (length l) at) KeyRead.Broken (cond (signAt l at "\"") (KeyRead.End (at + 1)) (cond (signAt l at "^") (markedKey l KeyMark.Control (at + 1)) (cond (signAt l at "\\") (markedKey l KeyMark.Quoted (at + 1)) (cond (signAt l at "$") (markedKey l KeyMark.Meta (at + 1)) (markedKey l KeyMark.Plain at)))))
     (λ _. tt)
     (λ _. cond-both KeyGood (signAt l at "\"") (KeyRead.End (at + 1)) (cond (signAt l at "^") (markedKey l KeyMark.Control (at + 1)) (cond (signAt l at "\\") (markedKey l KeyMark.Quoted (at + 1)) (cond (signAt l at "$") (markedKey l KeyMark.Meta (at + 1)) (markedKey l KeyMark.Plain at))))
-      (λ _. tt) (λ _. going-good (cond (signAt l at "^") (markedKey l KeyMark.Control (at + 1)) (cond (signAt l at "\\") (markedKey l KeyMark.Quoted (at + 1)) (cond (signAt l at "$") (markedKey l KeyMark.Meta (at + 1)) (markedKey l KeyMark.Plain at)))) (rest-going l at s)))
+    (λ _. tt) (λ _. going-good (cond (signAt l at "^") (markedKey l KeyMark.Control (at + 1)) (cond (signAt l at "\\") (markedKey l KeyMark.Quoted (at + 1)) (cond (signAt l at "$") (markedKey l KeyMark.Meta (at + 1)) (markedKey l KeyMark.Plain at)))) (rest-going l at s)))
 
 -- where no quote stands, it goes on
 key-going : (l : List ℕ) (at : ℕ) → Small l → signAt l at "\"" ≡ false → Going (keyAt l at)
@@ -117,7 +116,7 @@ key-going l at s q =
     cond-both Going (leb (length l) at) KeyRead.Broken (cond (signAt l at "\"") (KeyRead.End (at + 1)) (cond (signAt l at "^") (markedKey l KeyMark.Control (at + 1)) (cond (signAt l at "\\") (markedKey l KeyMark.Quoted (at + 1)) (cond (signAt l at "$") (markedKey l KeyMark.Meta (at + 1)) (markedKey l KeyMark.Plain at)))))
     (λ _. tt)
     (λ _. cond-both Going (signAt l at "\"") (KeyRead.End (at + 1)) (cond (signAt l at "^") (markedKey l KeyMark.Control (at + 1)) (cond (signAt l at "\\") (markedKey l KeyMark.Quoted (at + 1)) (cond (signAt l at "$") (markedKey l KeyMark.Meta (at + 1)) (markedKey l KeyMark.Plain at))))
-      (λ e. absurd (false≢true (sym q ∙ e))) (λ _. rest-going l at s))
+    (λ e. absurd (false≢true (sym q ∙ e))) (λ _. rest-going l at s))
 
 one-key : (k : KeyChar) (r : EventsRead) → k .byte < 256 → Keys r → Good (oneMoreKey k r)
 one-key k EventsRead.broken b g = tt

@@ -1,11 +1,11 @@
 -- The checks that the code makes come to `whole`.
 use Prim.Native.Nat.{ℕ, _<_}
-use mathlib.Core.Path.{_≡_, refl, sym, ap, _∙_}
-use mathlib.Core.List.{List, _++_}
-use mathlib.Core.Bool.{Bool, true}
+use mathlib.Core.Path.{_≡_}
+use mathlib.Core.List.{List}
+use mathlib.Core.Bool.{true}
 use lib.ListN.{getD, drop}
 use Rattle.words.proofs.Bools.{same-test}
-use Rattle.tables.specs.Layout.{encode, tableLength}
+use Rattle.tables.specs.Layout.{tableLength}
 use Rattle.tables.specs.Reading.{decode}
 use Rattle.tables.specs.Whole.{whole}
 use Rattle.tables.specs.Checks.{checks}

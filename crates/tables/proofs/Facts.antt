@@ -1,22 +1,22 @@
 -- What a table within limits and ranges says of its parts.
-use Prim.Native.Nat.{ℕ, zero, suc, _+_, _*_, _-_, _≤_, _<_}
+use Prim.Native.Nat.{ℕ, _+_, _-_, _≤_}
 use native.Mathlib.Omega.{arith}
-use mathlib.Core.Path.{_≡_, refl, sym, ap, _∙_}
-use mathlib.Core.List.{List, [], _∷_, _++_}
-use mathlib.Core.Bool.{Bool, true, false, cond, not, _&&_, _||_}
-use lib.Dec.{leb, ltb, eqb}
+use mathlib.Core.Path.{_≡_}
+use mathlib.Core.List.{List, [], _∷_}
+use mathlib.Core.Bool.{Bool, true, false, not, _||_}
+use lib.Dec.{leb, ltb}
 use lib.ListN.{length}
 use borrow.Author.Tests.{leb-true, ltb-false, le-leb, le-ltb, not-true}
-use Rattle.words.proofs.Bools.{and-left, and-right, and-both, or-no-left, or-no-right, or-neither, chain, chain-parts, chain-all, AllTrue}
+use Rattle.words.proofs.Bools.{or-no-left, or-no-right, or-neither, chain-parts, chain-all, AllTrue}
 use Rattle.model.specs.Lists.{all, any, inAll}
-use Rattle.model.specs.Counts.{sequence, expanded}
+use Rattle.model.specs.Counts.{sequence}
 use Rattle.model.specs.Compiling.{productionPasses, totalsPass, passesLimit}
 use Rattle.model.specs.Tables.{Call, Production, Table}
 use Rattle.model.specs.declared.scan.Span.{Span}
-use Rattle.tables.specs.Layout.{flat, eventsOf, callsOf, parametersOf}
+use Rattle.tables.specs.Layout.{eventsOf, callsOf, parametersOf}
 use Rattle.tables.specs.Fitting.{eventInRange, spanInText, textLength, callInRange, textsInRange, hasEvent, fitting}
 use Rattle.tables.proofs.Lists.{none-all, all-none, all-weaker, all-flat, length-flat, inAll-flat, inAll-le}
-use Rattle.tables.proofs.Sizes.{eventSize, length-expanded, length-le-size}
+use Rattle.tables.proofs.Sizes.{length-expanded, length-le-size}
 
 -- ---- The whole
 

@@ -1,10 +1,10 @@
 -- Entries as bytes: a word read back, whatever stands past the table.
-use Prim.Native.Nat.{ℕ, zero, suc, _+_, _*_, _-_, _≤_, _<_}
+use Prim.Native.Nat.{ℕ, _+_, _*_, _-_, _≤_, _<_}
 use native.Mathlib.Omega.{arith}
-use mathlib.Core.Path.{_≡_, refl, sym, ap, _∙_}
-use mathlib.Core.List.{List, [], _∷_, _++_, map}
-use lib.ListN.{length, getD, length-map, List·getD-map}
-use Rattle.words.specs.Words.{bytesOf, wordAt}
+use mathlib.Core.Path.{_≡_, ap, _∙_}
+use mathlib.Core.List.{List, [], _++_, map}
+use lib.ListN.{length, getD, length-map}
+use Rattle.words.specs.Words.{wordAt}
 use Rattle.words.proofs.Images.{word-image, length-bytes}
 use Rattle.model.specs.Tables.{Call}
 use Rattle.model.specs.declared.scan.Span.{Span}

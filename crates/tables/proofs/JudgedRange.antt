@@ -1,36 +1,34 @@
 -- An event that is kept is within the ranges of a table's entries.
-use Prim.Native.Nat.{ℕ, zero, suc, _+_, _-_, _*_, _^_, _≤_, _<_}
+use Prim.Native.Nat.{ℕ, _-_, _^_, _≤_, _<_}
 use native.Mathlib.Omega.{arith}
-use mathlib.Core.Path.{_≡_, refl, sym, ap, _∙_}
-use mathlib.Core.List.{List, [], _∷_, _++_}
-use mathlib.Core.Bool.{Bool, true, false, cond, not, _&&_, _||_, false≢true}
+use mathlib.Core.Path.{_≡_, refl}
+use mathlib.Core.List.{List, [], _∷_}
+use mathlib.Core.Bool.{Bool, true, false, cond, not, _&&_, _||_}
 use mathlib.Core.Option.{Option, none, some}
 use lib.Dec.{eqb, leb, ltb}
 use lib.ListN.{length, drop}
-use borrow.Author.Tests.{le-leb, leb-true, ltb-false, lt-ltb, eqb-true, not-false}
-use Rattle.words.proofs.Bools.{and-left, and-right, and-both, or-no-left, or-no-right}
+use borrow.Author.Tests.{le-leb, leb-true, ltb-false, eqb-true, not-false}
+use Rattle.words.proofs.Bools.{and-left, and-right, or-no-left, or-no-right}
 use Rattle.model.specs.Lists.{all, bytes, same, isEmpty}
 use Rattle.model.specs.Limits.{keysymLimit, smallDetailLimit}
 use Rattle.model.specs.Numbers.{eventOrder}
 use Rattle.model.specs.Bytes.{inRange, isCode, byteAt, isDigit}
-use Rattle.model.specs.Codes.{isEventCode, takesCount, isKey, isButton, motionNotify, hasMode, mappingNotify, hasAtom}
-use Rattle.model.specs.Names.{Entry, named, ctrlBit, protocolEntries, synonymEntries, abbreviationEntries, typeEntries, typeNamed}
+use Rattle.model.specs.Codes.{takesCount, isKey, isButton, motionNotify, hasMode, mappingNotify, hasAtom}
+use Rattle.model.specs.Names.{Entry, named, protocolEntries, synonymEntries, abbreviationEntries, typeEntries, typeNamed}
 use Rattle.model.specs.Details.{digitsFrom, withinLimit, numberIn, keysymEntries, startsHexadecimal, keyDetail, buttonEntries, motionEntries, modeEntries, requestEntries, leadingZero, smallNumber, nameOrNumber, detailNamed}
-use Rattle.model.specs.Events.{ModifierList, Count, Written, KeyChar, WrittenEvent, event, key}
-use Rattle.model.specs.Modifiers.{bitIf, sumBits, mask, bits, setMask, clearMask, asksSet, asksClear}
-use Rattle.model.specs.Judging.{fixes, detailOf, readValue, keptDetail, isOneDigit, countBad, countValue, detailTooLarge, isUnknown, isOutOfRange, isUnbuilt, isListNotTaken, isColonMisplaced, keptEvent, isImpossible, eventNumber, keepUnless, judgedAs, judgedWritten, keyPressOf, judgedMark, judged}
+use Rattle.model.specs.Events.{Count, Written, WrittenEvent, event, key}
+use Rattle.model.specs.Modifiers.{bitIf, mask, setMask, clearMask, asksSet, asksClear}
+use Rattle.model.specs.Judging.{fixes, detailOf, readValue, keptDetail, isOneDigit, countBad, countValue, detailTooLarge, isUnknown, isOutOfRange, isUnbuilt, isListNotTaken, isColonMisplaced, keptEvent, isImpossible, eventNumber, judgedAs, judgedWritten, keyPressOf, judgedMark, judged}
 use Rattle.model.specs.declared.scan.KeyMark.{KeyMark}
 use Rattle.model.specs.declared.events.Detail.{Detail}
-use Rattle.model.specs.declared.events.KeptEvent.{KeptEvent}
-use Rattle.model.specs.declared.names.Added.{Added}
 use Rattle.model.specs.declared.names.EventType.{EventType}
 use Rattle.model.specs.declared.names.TypeName.{TypeName}
 use Rattle.model.specs.declared.names.DetailRead.{DetailRead}
 use Rattle.model.specs.declared.answers.Judged.{Judged}
 use Rattle.tables.specs.Layout.{valueOf}
 use Rattle.tables.specs.Fitting.{eventInRange}
-use Rattle.tables.proofs.Positions.{cond-both, Small, small-drop}
-use Rattle.tables.proofs.EventWords.{RangeFacts, facts-range}
+use Rattle.tables.proofs.Positions.{cond-both, Small}
+use Rattle.tables.proofs.EventWords.{facts-range}
 use Rattle.tables.proofs.EventsRead.{WrittenSmall}
 
 -- ---- Names
@@ -87,12 +85,12 @@ key-pass word s =
     cond-both Pass (eqb (length word) 1) (DetailRead.Value (byteAt word 0)) (cond (startsHexadecimal word) (numberIn 16 keysymLimit (drop 2 word)) (cond (isCode (byteAt word 0) "0") (numberIn 8 keysymLimit word) (cond (isDigit (byteAt word 0)) (numberIn 10 keysymLimit word) (named keysymEntries DetailRead.Unknown word))))
     (λ _. let b = s 0 in le-leb (byteAt word 0) 0x1FFFFFFF (omega arith))
     (λ _. cond-both Pass (startsHexadecimal word) (numberIn 16 keysymLimit (drop 2 word)) (cond (isCode (byteAt word 0) "0") (numberIn 8 keysymLimit word) (cond (isDigit (byteAt word 0)) (numberIn 10 keysymLimit word) (named keysymEntries DetailRead.Unknown word)))
-      (λ _. number-pass 16 keysymLimit (drop 2 word) (omega arith))
-      (λ _. cond-both Pass (isCode (byteAt word 0) "0") (numberIn 8 keysymLimit word) (cond (isDigit (byteAt word 0)) (numberIn 10 keysymLimit word) (named keysymEntries DetailRead.Unknown word))
-        (λ _. number-pass 8 keysymLimit word (omega arith))
-        (λ _. cond-both Pass (isDigit (byteAt word 0)) (numberIn 10 keysymLimit word) (named keysymEntries DetailRead.Unknown word)
-          (λ _. number-pass 10 keysymLimit word (omega arith))
-          (λ _. named-test readTest keysymEntries DetailRead.Unknown word keysyms-pass refl))))
+    (λ _. number-pass 16 keysymLimit (drop 2 word) (omega arith))
+    (λ _. cond-both Pass (isCode (byteAt word 0) "0") (numberIn 8 keysymLimit word) (cond (isDigit (byteAt word 0)) (numberIn 10 keysymLimit word) (named keysymEntries DetailRead.Unknown word))
+    (λ _. number-pass 8 keysymLimit word (omega arith))
+    (λ _. cond-both Pass (isDigit (byteAt word 0)) (numberIn 10 keysymLimit word) (named keysymEntries DetailRead.Unknown word)
+    (λ _. number-pass 10 keysymLimit word (omega arith))
+    (λ _. named-test readTest keysymEntries DetailRead.Unknown word keysyms-pass refl))))
 
 small-pass : (word : List ℕ) → Pass (smallNumber word)
 unfolding smallNumber
@@ -111,14 +109,14 @@ detail-pass code word s =
     cond-both Pass (isKey code) (keyDetail word) (cond (isButton code) (named buttonEntries DetailRead.Unknown word) (cond (eqb code motionNotify) (nameOrNumber motionEntries word) (cond (hasMode code) (nameOrNumber modeEntries word) (cond (eqb code mappingNotify) (nameOrNumber requestEntries word) (cond (hasAtom code) DetailRead.NotBuilt DetailRead.Unknown)))))
     (λ _. key-pass word s)
     (λ _. cond-both Pass (isButton code) (named buttonEntries DetailRead.Unknown word) (cond (eqb code motionNotify) (nameOrNumber motionEntries word) (cond (hasMode code) (nameOrNumber modeEntries word) (cond (eqb code mappingNotify) (nameOrNumber requestEntries word) (cond (hasAtom code) DetailRead.NotBuilt DetailRead.Unknown))))
-      (λ _. named-test readTest buttonEntries DetailRead.Unknown word refl refl)
-      (λ _. cond-both Pass (eqb code motionNotify) (nameOrNumber motionEntries word) (cond (hasMode code) (nameOrNumber modeEntries word) (cond (eqb code mappingNotify) (nameOrNumber requestEntries word) (cond (hasAtom code) DetailRead.NotBuilt DetailRead.Unknown)))
-        (λ _. named-pass motionEntries word refl)
-        (λ _. cond-both Pass (hasMode code) (nameOrNumber modeEntries word) (cond (eqb code mappingNotify) (nameOrNumber requestEntries word) (cond (hasAtom code) DetailRead.NotBuilt DetailRead.Unknown))
-          (λ _. named-pass modeEntries word refl)
-          (λ _. cond-both Pass (eqb code mappingNotify) (nameOrNumber requestEntries word) (cond (hasAtom code) DetailRead.NotBuilt DetailRead.Unknown)
-            (λ _. named-pass requestEntries word refl)
-            (λ _. cond-both Pass (hasAtom code) DetailRead.NotBuilt DetailRead.Unknown (λ _. refl) (λ _. refl))))))
+    (λ _. named-test readTest buttonEntries DetailRead.Unknown word refl refl)
+    (λ _. cond-both Pass (eqb code motionNotify) (nameOrNumber motionEntries word) (cond (hasMode code) (nameOrNumber modeEntries word) (cond (eqb code mappingNotify) (nameOrNumber requestEntries word) (cond (hasAtom code) DetailRead.NotBuilt DetailRead.Unknown)))
+    (λ _. named-pass motionEntries word refl)
+    (λ _. cond-both Pass (hasMode code) (nameOrNumber modeEntries word) (cond (eqb code mappingNotify) (nameOrNumber requestEntries word) (cond (hasAtom code) DetailRead.NotBuilt DetailRead.Unknown))
+    (λ _. named-pass modeEntries word refl)
+    (λ _. cond-both Pass (eqb code mappingNotify) (nameOrNumber requestEntries word) (cond (hasAtom code) DetailRead.NotBuilt DetailRead.Unknown)
+    (λ _. named-pass requestEntries word refl)
+    (λ _. cond-both Pass (hasAtom code) DetailRead.NotBuilt DetailRead.Unknown (λ _. refl) (λ _. refl))))))
 
 read-value : (r : DetailRead) → Pass r → valueOf (readValue r) ≤ 0x1FFFFFFF
 read-value (DetailRead.Value v) e = leb-true v 0x1FFFFFFF e
@@ -131,7 +129,7 @@ unfolding keptDetail detailOf
 kept-detail ty word h s =
     cond-both (λ (d : Detail). valueOf d ≤ 0x1FFFFFFF) (isEmpty word) (ty .detail) (readValue (detailOf ty word)) (λ _. h)
     (λ _. read-value (detailOf ty word)
-      (cond-both Pass (fixes (ty .detail)) DetailRead.Unknown (detailNamed (ty .code) word) (λ _. refl) (λ _. detail-pass (ty .code) word s)))
+    (cond-both Pass (fixes (ty .detail)) DetailRead.Unknown (detailNamed (ty .code) word) (λ _. refl) (λ _. detail-pass (ty .code) word s)))
 
 -- ---- Masks
 

@@ -11,9 +11,13 @@ pub mod CheckFacts
 pub mod Decoded
 pub mod Exact
 pub mod LoopLaws
+pub mod Shortcuts
 pub mod Written
+pub mod WholeFacts
 pub mod Positions
 pub mod CallSpans
 pub mod EventsRead
 pub mod JudgedRange
 pub mod CompiledFits
+pub mod AcceptedFits
+pub mod MergedFits

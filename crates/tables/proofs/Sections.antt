@@ -4,10 +4,10 @@ use native.Mathlib.Omega.{arith}
 use native.Mathlib.Nat.{zero-add, suc-add}
 use mathlib.Core.Path.{_≡_, refl, sym, ap, _∙_}
 use mathlib.Core.List.{List, [], _∷_, _++_, append-assoc}
-use lib.ListN.{length, getD, set, length-append, length-set, List·getD-append, List·getD-eq-default}
+use lib.ListN.{length, getD, set, length-append, List·getD-append}
 use lib.Seq.{getD-append-add, set-append-left, set-append-seam}
 use Rattle.words.specs.Words.{zeros}
-use Rattle.words.proofs.Laws.{length-zeros, zeros-add, getD-zeros}
+use Rattle.words.proofs.Laws.{length-zeros, getD-zeros}
 use Rattle.tables.specs.Layout.{padded, joined, offset}
 
 -- each section is within its capacity

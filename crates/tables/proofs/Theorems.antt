@@ -1,9 +1,9 @@
 -- What `whole`, `encode` and `decode` are to each other.
-use Prim.Native.Nat.{ℕ, zero, suc, _+_, _*_, _-_, _≤_, _<_}
+use Prim.Native.Nat.{ℕ, _+_, _-_, _≤_}
 use native.Mathlib.Omega.{arith}
 use mathlib.Core.Path.{_≡_, refl, sym, ap, _∙_}
-use mathlib.Core.List.{List, [], _∷_, _++_, map, append-nil}
-use mathlib.Core.Bool.{Bool, true, false, _&&_, false≢true}
+use mathlib.Core.List.{List, [], _∷_, _++_, map}
+use mathlib.Core.Bool.{true, false, false≢true}
 use lib.Dec.{eqb}
 use lib.ListN.{length, take, drop, take-append-drop, length-append}
 use lib.Seq.{take-at}
@@ -14,7 +14,7 @@ use Rattle.words.proofs.Laws.{zeros-add}
 use Rattle.words.proofs.Images.{bytes-zeros}
 use Rattle.model.specs.Lists.{same}
 use Rattle.model.specs.Tables.{Table, emptyTable}
-use Rattle.tables.specs.Layout.{padded, joined, offset, capacities, tableLength, flat, headerOf, entriesOf, sectionsOf, image, encode}
+use Rattle.tables.specs.Layout.{padded, joined, offset, tableLength, flat, headerOf, entriesOf, sectionsOf, image, encode}
 use Rattle.tables.specs.Reading.{decode}
 use Rattle.tables.specs.Fitting.{fitting}
 use Rattle.tables.specs.Whole.{whole}

@@ -1,19 +1,18 @@
 -- What writing one entry does to bytes that hold entries: they hold one entry more.
-use Prim.Native.Nat.{ℕ, zero, suc, _+_, _*_, _-_, _≤_, _<_}
+use Prim.Native.Nat.{ℕ, zero, suc, _+_, _-_, _≤_, _<_}
 use native.Mathlib.Omega.{arith}
-use native.Mathlib.Nat.{add-zero}
 use mathlib.Core.Path.{_≡_, refl, sym, ap, _∙_}
 use mathlib.Core.List.{List, [], _∷_, _++_, map}
 use mathlib.Core.Bool.{Bool}
 use lib.ListN.{length, getD, set, drop, length-map, length-append}
-use Rattle.words.specs.Words.{bytesOf, putWord, zeros, cleared}
+use Rattle.words.specs.Words.{bytesOf, putWord, cleared}
 use Rattle.words.proofs.Images.{put-image, bytes-zeros}
 use Rattle.model.specs.Tables.{Call}
 use Rattle.model.specs.declared.scan.Span.{Span}
 use Rattle.model.specs.declared.events.KeptEvent.{KeptEvent}
 use Rattle.model.specs.declared.events.Directive.{Directive}
 use Rattle.tables.specs.Layout.{Entries, joined, offset, capacities, sectionsOf, image, flag, directiveWord, flagsWord, lowWord, highWord, markWord, tableLength}
-use Rattle.tables.specs.Layout.{productionEventsAt, productionCallsAt, codesAt, countsAt, setsAt, clearsAt, flagsAt, lowsAt, highsAt, marksAt, nameStartsAt, nameLengthsAt, callParametersAt, parameterStartsAt, parameterLengthsAt}
+use Rattle.tables.specs.Layout.{productionCallsAt, countsAt, setsAt, clearsAt, flagsAt, lowsAt, highsAt, nameStartsAt, nameLengthsAt, callParametersAt, parameterLengthsAt}
 use Rattle.tables.specs.Writing.{putTest, putDetail, putEvent, putCall, putParameter, putProduction, putTexts, putCounts, noEntries, withEvent, withCall, withParameter, withProduction, withHeader}
 use Rattle.tables.proofs.Sections.{Sized, none, more, length-joined, append-joined, offset-below}
 use Rattle.tables.proofs.Images.{Room, sized}

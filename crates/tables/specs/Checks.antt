@@ -8,7 +8,6 @@ use lib.ListN.{length}
 use Rattle.words.specs.Words.{wordAt}
 use Rattle.words.specs.Runs.{every, total, isZero}
 use Rattle.tables.specs.Layout.{productionEventsAt, productionCallsAt, codesAt, countsAt, setsAt, clearsAt, flagsAt, lowsAt, highsAt, marksAt, nameStartsAt, nameLengthsAt, callParametersAt, parameterStartsAt, parameterLengthsAt, tableLength}
-use Rattle.tables.specs.Reading.{productionCount, eventCount, callCount, parameterCount, firstLengthIn, secondLengthIn}
 
 -- ---- The header
 
@@ -135,6 +134,11 @@ productionOk l p =
     leb 1 (wordAt l (productionEventsAt + p))
     && leb (wordAt l (productionCallsAt + p)) 8
     && leb (total (sizeAt l) (total (wordAt l) productionEventsAt p) (wordAt l (productionEventsAt + p))) 24
+
+-- a production none of whose events is counted
+unfoldable pub plainOk : List ℕ → ℕ → Bool
+plainOk l p =
+    leb 1 (wordAt l (productionEventsAt + p)) && leb (wordAt l (productionCallsAt + p)) 8 && leb (wordAt l (productionEventsAt + p)) 24
 
 -- ---- All
 

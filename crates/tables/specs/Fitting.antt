@@ -1,6 +1,6 @@
 -- Which tables can be kept: document 01's limits, and each field's range.
 use Prim.Native.Nat.{ℕ, _+_}
-use mathlib.Core.Bool.{Bool, true, cond, not, _&&_, _||_}
+use mathlib.Core.Bool.{Bool, cond, not, _&&_, _||_}
 use lib.Dec.{leb, ltb}
 use lib.ListN.{length}
 use Rattle.model.specs.Lists.{all}
@@ -10,7 +10,6 @@ use Rattle.model.specs.Codes.{isEventCode, takesCount}
 use Rattle.model.specs.Compiling.{passesLimit}
 use Rattle.model.specs.Tables.{Call, Production, Table}
 use Rattle.model.specs.declared.scan.Span.{Span}
-use Rattle.model.specs.declared.events.Detail.{Detail}
 use Rattle.model.specs.declared.events.KeptEvent.{KeptEvent}
 use Rattle.tables.specs.Layout.{valueOf, eventsOf, callsOf}
 

@@ -1,13 +1,15 @@
 // Which bytes are a whole table. Each loop goes over the used words of a few sections, or over the unused words of one, with
 // no early exit, so that it is compiled to vector instructions.
 ghost use mathlib.Core.Path.{_≡_};
+ghost use mathlib.Core.Bool.{true, _&&_};
+ghost use lib.Dec.{leb};
 ghost use Prim.Native.Nat.{_+_, _*_, _≤_, _<_};
 ghost use lib.ListN.{length};
 ghost use Rattle.words.specs.Words.{wordAt};
 ghost use Rattle.words.specs.Runs.{every, total};
 ghost use Rattle.tables.specs.Layout.{productionEventsAt, callParametersAt};
 ghost use Rattle.tables.specs.Whole.{whole};
-ghost use Rattle.tables.specs.Checks.{textWordsOk, countWordsOk, headerOk, sumsOk, restZero, productionsRest, testsRest, detailsRest, callsRest, parametersRest, unusedOk, eventWordsOk, eventOk, textOf, callWordsOk, callOk, parameterOk, parametersOk, sizeOf, sizeAt, productionOk, entriesOk};
+ghost use Rattle.tables.specs.Checks.{textWordsOk, countWordsOk, headerOk, sumsOk, restZero, productionsRest, testsRest, detailsRest, callsRest, parametersRest, unusedOk, eventWordsOk, eventOk, textOf, callWordsOk, callOk, parameterOk, parametersOk, sizeOf, sizeAt, productionOk, plainOk, entriesOk};
 
 // ---- The header
 
@@ -286,20 +288,60 @@ fn productions_ok(l: &[u8], n: usize) -> bool
     ok
 }
 
+// The parameters of n calls. Only a merged table has calls of two texts; in any other one loop goes over all parameters.
+fn spans_ok(l: &[u8], n: usize, parameters: usize) -> bool
+    requires { ⌜ ((5904 ≤ length (now l)) × (n ≤ 128)) × ((total (wordAt (now l)) callParametersAt n ≡ parameters) × (parameters ≤ 256) × (every (callOk (now l)) 0 n ≡ true)) ⌝ }
+    ensures { λ r. ⌜ r ≡ every (parametersOk (now (l .entry))) 0 n ⌝ }
+{
+    if words::word_at(l, 1) == 0 {
+        return parameters_in(l, words::word_at(l, 2), 0, parameters);
+    }
+    parameters_ok(l, n)
+}
+
+// Productions none of whose events is counted.
+fn plain_ok(l: &[u8], n: usize) -> bool
+    requires { ⌜ (5904 ≤ length (now l)) × (n ≤ 64) ⌝ }
+    ensures { λ r. ⌜ r ≡ every (plainOk (now (l .entry))) 0 n ⌝ }
+{
+    let mut ok = true;
+    let mut p: usize = 0;
+    while p < n {
+        let events = words::word_at(l, 8 + p);
+        ok = ok & ((1 <= events) & (words::word_at(l, 72 + p) <= 8) & (events <= 24));
+        p += 1;
+    }
+    ok
+}
+
+// The productions and how many events they stand for: where no event is counted, as many as they have.
+fn sequences_ok(l: &[u8], n: usize, events: usize) -> bool
+    requires { ⌜ ((5904 ≤ length (now l)) × (n ≤ 64)) × ((total (wordAt (now l)) productionEventsAt n ≡ events) × (events ≤ 256) × (every (eventOk (now l)) 0 events ≡ true)) ⌝ }
+    ensures { λ r. ⌜ r ≡ (every (productionOk (now (l .entry))) 0 n && leb (total (sizeAt (now (l .entry))) 0 events) 256) ⌝ }
+{
+    if words::sum(l, 392, events) == events as u32 {
+        return plain_ok(l, n);
+    }
+    productions_ok(l, n) & (sizes(l, 0, events) <= 256)
+}
+
 // ---- The table
 
 fn entries_ok(l: &[u8]) -> bool
-    requires { ⌜ (5904 ≤ length (now l)) × ((wordAt (now l) 4 ≤ 64) × (wordAt (now l) 5 ≤ 256) × (wordAt (now l) 6 ≤ 128)) × (total (wordAt (now l)) productionEventsAt (wordAt (now l) 4) ≤ 256) × (total (wordAt (now l)) callParametersAt (wordAt (now l) 6) ≤ 256) ⌝ }
+    requires { ⌜ (5904 ≤ length (now l)) × ((wordAt (now l) 4 ≤ 64) × (wordAt (now l) 5 ≤ 256) × (wordAt (now l) 6 ≤ 128) × (wordAt (now l) 7 ≤ 256)) × (total (wordAt (now l)) productionEventsAt (wordAt (now l) 4) ≡ wordAt (now l) 5) × (total (wordAt (now l)) callParametersAt (wordAt (now l) 6) ≡ wordAt (now l) 7) ⌝ }
     ensures { λ r. ⌜ r ≡ entriesOk (now (l .entry)) ⌝ }
 {
     let productions = words::word_at(l, 4) as usize;
     let events = words::word_at(l, 5) as usize;
     let calls = words::word_at(l, 6) as usize;
-    events_ok(l, events)
-        & calls_ok(l, calls)
-        & parameters_ok(l, calls)
-        & productions_ok(l, productions)
-        & (sizes(l, 0, events) <= 256)
+    let parameters = words::word_at(l, 7) as usize;
+    if !events_ok(l, events) {
+        return false;
+    }
+    if !calls_ok(l, calls) {
+        return false;
+    }
+    spans_ok(l, calls, parameters) & sequences_ok(l, productions, events)
 }
 
 // Whether the bytes are a whole table. What stands past its length plays no part.

@@ -3,7 +3,6 @@ use model::events::Detail;
 use model::events::Directive;
 use model::events::KeptEvent;
 use model::scan::Span;
-
 ghost use mathlib.Core.Path.{_≡_};
 ghost use Prim.Native.Nat.{_+_, _*_, _≤_, _<_};
 ghost use lib.ListN.{length};

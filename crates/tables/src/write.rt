@@ -3,7 +3,6 @@ use model::events::Detail;
 use model::events::Directive;
 use model::events::KeptEvent;
 use model::scan::Span;
-
 ghost use mathlib.Core.Path.{_≡_};
 ghost use Prim.Native.Nat.{_+_, _*_, _≤_, _<_};
 ghost use lib.ListN.{length};
@@ -80,7 +79,13 @@ pub fn put_event(out: &mut [u8], i: usize, e: KeptEvent)
     let flags = flags_of(e.colon, e.clause, is_given(d));
     let value = value_of(d);
     put_test(out, i, code as u16, count as u16, e.set, e.clear);
-    put_detail(out, i, flags, (value % 65536) as u16, (value / 65536) as u16);
+    put_detail(
+        out,
+        i,
+        flags,
+        (value % 65536) as u16,
+        (value / 65536) as u16,
+    );
 }
 
 // ---- Calls and parameters
@@ -140,7 +145,13 @@ pub fn put_texts(out: &mut [u8], directive: Directive, merged: bool, first: usiz
     words::put_word(out, 3, second as u16);
 }
 
-pub fn put_counts(out: &mut [u8], productions: usize, events: usize, calls: usize, parameters: usize)
+pub fn put_counts(
+    out: &mut [u8],
+    productions: usize,
+    events: usize,
+    calls: usize,
+    parameters: usize,
+)
     requires { ⌜ (5904 ≤ length (now out)) × ((productions < 65536) × (events < 65536) × (calls < 65536) × (parameters < 65536)) ⌝ }
     ensures { λ r. ⌜ now (out .exit) ≡ putCounts (now (out .entry)) productions events calls parameters ⌝ }
 {

@@ -5,7 +5,7 @@ use native.Mathlib.Numerals.{add-one}
 use native.Mathlib.Nat.{zero-add, suc-add, add-zero, add-suc}
 use mathlib.Core.Path.{_≡_, refl, sym, ap, _∙_}
 use mathlib.Core.List.{List, [], _∷_, _++_, map}
-use mathlib.Core.Bool.{Bool, true, false, _&&_}
+use mathlib.Core.Bool.{Bool, true, false, _&&_, and-true, and-assoc}
 use lib.Dec.{eqb}
 use lib.ListN.{length, getD}
 use lib.Seq.{ext-getD}
@@ -43,6 +43,18 @@ every-all test s zero f = refl
 every-all test s (suc n) f =
     and-both (every test s n) (test (s + n)) (every-all test s n (λ i h. f i (omega arith))) (f n (omega arith))
 
+pub every-same : (f g : ℕ → Bool) (s n : ℕ) → ((i : ℕ) → i < n → f (s + i) ≡ g (s + i)) → every f s n ≡ every g s n
+unfolding every
+every-same f g s zero e = refl
+every-same f g s (suc n) e = rw (every-same f g s n (λ i h. e i (omega arith)), e n (omega arith))
+
+pub every-add : (test : ℕ → Bool) (s n m : ℕ) → every test s (n + m) ≡ (every test s n && every test (s + n) m)
+unfolding every
+every-add test s n zero = rw add-zero (sym (and-true (every test s n)))
+every-add test s n (suc m) =
+    let e : s + (n + m) ≡ s + n + m = omega arith in
+    rw (add-suc, every, every-add test s n m, e) (and-assoc (every test s n) (every test (s + n) m) (test (s + n + m)))
+
 -- ---- Sums
 
 pub total-more : (f : ℕ → ℕ) (s n : ℕ) → total f s (n + 1) ≡ total f s n + f (s + n)
@@ -73,6 +85,35 @@ pub total-part : (f : ℕ → ℕ) (s i n : ℕ) → i < n → total f s i + f (
 total-part f s i n h =
     let e : n ≡ (i + 1) + (n - (i + 1)) = omega arith in
     rw e (omega (arith, total-add f s (i + 1) (n - (i + 1)), total-more f s i))
+
+-- numbers of at least 1
+module _ (f : ℕ → ℕ) (s : ℕ) where
+  total-ge : (n : ℕ) → ((i : ℕ) → i < n → 1 ≤ f (s + i)) → n ≤ total f s n
+  unfolding total
+  total-ge zero h = omega arith
+  total-ge (suc n) h = let a = total-ge n (λ i q. h i (omega arith)) in let b = h n (omega arith) in omega arith
+
+-- that sum to as many as there are, are all 1
+pub all-ones : (f : ℕ → ℕ) (s n i : ℕ) → total f s n ≡ n → ((k : ℕ) → k < n → 1 ≤ f (s + k)) → i < n → f (s + i) ≡ 1
+all-ones f s n i e h q =
+    let split : n ≡ (i + 1) + (n - (i + 1)) = omega arith in
+    let t : total f s n ≡ total f s (i + 1) + total f (s + (i + 1)) (n - (i + 1)) = ap (total f s) split ∙ total-add f s (i + 1) (n - (i + 1)) in
+    let a = total-more f s i in
+    let b = total-ge f s i (λ k p. h k (omega arith)) in
+    let c = total-ge f (s + (i + 1)) (n - (i + 1)) (λ k p. shifted k p) in
+    let d = h i q in
+    omega (arith, t, a, b, c, d, e)
+  where
+    shifted : (k : ℕ) → k < n - (i + 1) → 1 ≤ f (s + (i + 1) + k)
+    shifted k p =
+        let z : s + (i + 1) + k ≡ s + ((i + 1) + k) = omega arith in
+        rw z (h ((i + 1) + k) (omega arith))
+
+-- the sum of ones
+pub total-ones : (f : ℕ → ℕ) (s n : ℕ) → ((i : ℕ) → i < n → f (s + i) ≡ 1) → total f s n ≡ n
+unfolding total
+total-ones f s zero h = refl
+total-ones f s (suc n) h = let a = total-ones f s n (λ i q. h i (omega arith)) in let b = h n (omega arith) in omega arith
 
 -- ---- Lists
 

@@ -1,20 +1,13 @@
+-- `words::all_zero` meets its contract.
 use borrow.Author.Needs.{needs}
--- uses
 use native.Mathlib.Omega.{arith}
-use Prim.Native.Nat.{ℕ, suc, _+_, _-_, _*_, _≤_, _<_}
-use mathlib.Core.Path.{_≡_, refl, sym, ap, _∙_}
-use mathlib.Core.Bool.{Bool, true, false, not, cond, _&&_, _||_}
-use mathlib.Core.List.{List, [], _∷_, _++_}
-use lib.ListN.{length, take, drop, getD, set}
-use Rattle.words.specs.Runs.{every, total, isZero}
-use Rattle.words.specs.Words.{wordAt}
-use Rattle.words.proofs.RunLaws.{every-more, total-more}
--- end uses
+use Prim.Native.Nat.{_+_, _-_, _*_, _≤_}
+use mathlib.Core.Path.{_≡_, refl, _∙_}
+use lib.ListN.{length}
+use Rattle.words.specs.Runs.{every, isZero}
+use Rattle.words.proofs.RunLaws.{every-more}
 use Rattle.words.proofs.all_zero.Statement.{statement}
 use Rattle.words.proofs.all_zero.Tie as tie
-use Rattle.words.proofs.all_zero.Reads as reads
-use Rattle.words.proofs.all_zero.Lts as lts
-use Rattle.words.proofs.word_at.Reads as word-at-reads
 
 abbrev Inv-loop : tie.InvT-loop
 Inv-loop l k n clean₀ i₀ clean i = (i ≤ n) × (2 * (k + n) ≤ length l) × (clean ≡ every (isZero l) k i)
@@ -22,33 +15,26 @@ Inv-loop l k n clean₀ i₀ clean i = (i ≤ n) × (2 * (k + n) ≤ length l) �
 abbrev μ-loop : tie.MeasureT-loop
 μ-loop l k n clean₀ i₀ clean i = n - i
 
--- src/lib.rt:48:5
 loop-holds : tie.Need-loop-holds Inv-loop μ-loop
 unfolding every
 loop-holds c = (search needs, search needs, refl)
 
--- src/lib.rt:49:37
 add-word-at : tie.Need-add-word-at Inv-loop μ-loop
 add-word-at c = search needs
 
--- src/lib.rt:49:26
 word-at-requires : tie.Need-word-at-requires Inv-loop μ-loop
 word-at-requires c κs = search needs
 
--- src/lib.rt:50:9
 add-i : tie.Need-add-i Inv-loop μ-loop
 add-i c = search needs
 
--- src/lib.rt:48:5
 loop-less : tie.Need-loop-less Inv-loop μ-loop
 loop-less c = search needs
 
--- src/lib.rt:48:5
 loop-again : tie.Need-loop-again Inv-loop μ-loop
 unfolding isZero
 loop-again c = (search needs, search needs, rw (every-more, ← c .word-at .ensures, c .before .before .loop .inv .2))
 
--- src/lib.rt:42:1
 returns : tie.Need-returns Inv-loop μ-loop
 returns c =
     let e : c .before .loop .i ≡ c .before .before .before .args .n = omega arith in

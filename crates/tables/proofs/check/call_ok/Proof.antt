@@ -1,31 +1,14 @@
+-- `tables::check::call_ok` meets its contract.
 use borrow.Author.Needs.{needs}
--- uses
-use native.Mathlib.Omega.{arith}
-use Prim.Native.Nat.{ℕ, suc, _+_, _-_, _*_, _≤_, _<_}
-use mathlib.Core.Path.{_≡_, refl, sym, ap, _∙_}
-use mathlib.Core.Bool.{Bool, true, false, not, cond, _&&_, _||_}
-use mathlib.Core.List.{List, [], _∷_, _++_}
-use lib.ListN.{length, take, drop, getD, set}
-use Rattle.tables.specs.Checks.{textWordsOk, countWordsOk, headerOk, sumsOk, restZero, productionsRest, testsRest, detailsRest, callsRest, parametersRest, unusedOk, eventWordsOk, eventOk, textOf, callWordsOk, callOk, parameterOk, parametersOk, sizeOf, sizeAt, productionOk, entriesOk, checks}
-use Rattle.words.specs.Words.{wordAt}
-use Rattle.words.specs.Runs.{every, total}
-use Rattle.words.proofs.RunLaws.{every-more, total-more}
-use native.Mathlib.Nat.{zero-add}
-use borrow.Author.Tests.{le-leb, lt-leb, lt-ltb, le-ltb, eq-eqb, ne-eqb}
-use Rattle.tables.specs.Layout.{productionEventsAt, callParametersAt}
-use Rattle.tables.proofs.LoopLaws.{size-below}
-use Rattle.words.proofs.RunLaws.{total-part}
--- end uses
+use Prim.Native.Nat.{_-_}
+use mathlib.Core.Path.{refl}
+use Rattle.tables.specs.Checks.{callWordsOk}
 use Rattle.tables.proofs.check.call_ok.Statement.{statement}
 use Rattle.tables.proofs.check.call_ok.Tie as tie
-use Rattle.tables.proofs.check.call_ok.Reads as reads
-use Rattle.tables.proofs.check.call_ok.Lts as lts
 
--- src/check.rt:177:45
 add-result : tie.Need-add-result
 add-result c = search needs
 
--- src/check.rt:174:1
 returns : tie.Need-returns
 unfolding callWordsOk
 returns c = refl

@@ -1,80 +1,73 @@
+-- `tables::check::entries_ok` meets its contract.
 use borrow.Author.Needs.{needs}
--- uses
-use native.Mathlib.Omega.{arith}
-use Prim.Native.Nat.{ℕ, suc, _+_, _-_, _*_, _≤_, _<_}
-use mathlib.Core.Path.{_≡_, refl, sym, ap, _∙_}
-use mathlib.Core.Bool.{Bool, true, false, not, cond, _&&_, _||_}
-use mathlib.Core.List.{List, [], _∷_, _++_}
-use lib.ListN.{length, take, drop, getD, set}
-use Rattle.tables.specs.Checks.{textWordsOk, countWordsOk, headerOk, sumsOk, restZero, productionsRest, testsRest, detailsRest, callsRest, parametersRest, unusedOk, eventWordsOk, eventOk, textOf, callWordsOk, callOk, parameterOk, parametersOk, sizeOf, sizeAt, productionOk, entriesOk, checks}
+use Prim.Native.Nat.{_-_}
+use mathlib.Core.Path.{_≡_, sym, _∙_}
+use mathlib.Core.Bool.{true, false}
+use Rattle.tables.specs.Checks.{eventOk, callOk, parametersOk, sizeAt, productionOk, entriesOk}
 use Rattle.words.specs.Words.{wordAt}
 use Rattle.words.specs.Runs.{every, total}
-use Rattle.words.proofs.RunLaws.{every-more, total-more}
-use native.Mathlib.Nat.{zero-add}
-use borrow.Author.Tests.{le-leb, lt-leb, lt-ltb, le-ltb, eq-eqb, ne-eqb}
-use Rattle.tables.specs.Layout.{productionEventsAt, callParametersAt}
-use Rattle.tables.proofs.LoopLaws.{size-below}
-use Rattle.words.proofs.RunLaws.{total-part}
--- end uses
+use mathlib.Core.Bool.{and-assoc}
+use lib.Dec.{leb}
+use borrow.Author.Tests.{not-true, not-false}
 use Rattle.tables.proofs.check.entries_ok.Statement.{statement}
 use Rattle.tables.proofs.check.entries_ok.Tie as tie
-use Rattle.tables.proofs.check.entries_ok.Reads as reads
-use Rattle.tables.proofs.check.entries_ok.Lts as lts
-use Rattle.tables.proofs.check.calls_ok.Reads as calls-ok-reads
-use Rattle.tables.proofs.check.events_ok.Reads as events-ok-reads
-use Rattle.tables.proofs.check.parameters_ok.Reads as parameters-ok-reads
-use Rattle.tables.proofs.check.productions_ok.Reads as productions-ok-reads
-use Rattle.tables.proofs.check.sizes.Reads as sizes-reads
-use Rattle.words.proofs.word_at.Reads as word-at-reads
 
--- src/check.rt:294:23
 word-at-requires : tie.Need-word-at-requires
 word-at-requires c κs = search needs
 
--- src/check.rt:294:23
 cast-productions : tie.Need-cast-productions
 cast-productions c = search needs
 
--- src/check.rt:295:18
 word-at-requires-2 : tie.Need-word-at-requires-2
 word-at-requires-2 c κs = search needs
 
--- src/check.rt:295:18
 cast-events : tie.Need-cast-events
 cast-events c = search needs
 
--- src/check.rt:296:17
 word-at-requires-3 : tie.Need-word-at-requires-3
 word-at-requires-3 c κs = search needs
 
--- src/check.rt:296:17
 cast-calls : tie.Need-cast-calls
 cast-calls c = search needs
 
--- src/check.rt:297:5
+word-at-requires-4 : tie.Need-word-at-requires-4
+word-at-requires-4 c κs = search needs
+
+cast-parameters : tie.Need-cast-parameters
+cast-parameters c = search needs
+
 events-ok-requires : tie.Need-events-ok-requires
 events-ok-requires c κs = search needs
 
--- src/check.rt:298:11
+returns : tie.Need-returns
+unfolding entriesOk
+returns c =
+    let ev : every (eventOk (c .before .before .before .before .before .before .before .args .l .now)) 0 (wordAt (c .before .before .before .before .before .before .before .args .l .now) 5) ≡ false = rw (← c .before .before .before .before .word-at2 .ensures) (sym (c .before .events-ok .ensures) ∙ not-true (c .before .events-ok .result) (c .if1 .taken)) in
+    rw ev
+
 calls-ok-requires : tie.Need-calls-ok-requires
 calls-ok-requires c κs = search needs
 
--- src/check.rt:299:11
-parameters-ok-requires : tie.Need-parameters-ok-requires
-parameters-ok-requires c κs = (search needs, search needs, rw (c .before .before .word-at3 .ensures) (c .before .before .before .before .before .before .pre .3))
-
--- src/check.rt:300:11
-productions-ok-requires : tie.Need-productions-ok-requires
-productions-ok-requires c κs = (search needs, search needs, rw (c .before .before .before .before .before .word-at .ensures) (c .before .before .before .before .before .before .before .pre .2))
-
--- src/check.rt:301:12
-sizes-requires : tie.Need-sizes-requires
-sizes-requires c κs = search needs
-
--- src/check.rt:290:1
-returns : tie.Need-returns
+returns-2 : tie.Need-returns-2
 unfolding entriesOk
-returns c = rw (c .before .before .before .before .events-ok .ensures, c .before .before .before .calls-ok .ensures, c .before .before .parameters-ok .ensures, c .before .productions-ok .ensures, c .sizes .ensures, c .before .before .before .before .before .before .before .word-at .ensures, c .before .before .before .before .before .before .word-at2 .ensures, c .before .before .before .before .before .word-at3 .ensures)
+returns-2 c =
+    let ev : every (eventOk (c .before .before .before .before .before .before .before .before .before .args .l .now)) 0 (wordAt (c .before .before .before .before .before .before .before .before .before .args .l .now) 5) ≡ true = rw (← c .before .before .before .before .before .before .word-at2 .ensures) (sym (c .before .before .before .events-ok .ensures) ∙ not-false (c .before .before .before .events-ok .result) (c .before .before .if1 .left)) in
+    let cl : every (callOk (c .before .before .before .before .before .before .before .before .before .args .l .now)) 0 (wordAt (c .before .before .before .before .before .before .before .before .before .args .l .now) 6) ≡ false = rw (← c .before .before .before .before .before .word-at3 .ensures) (sym (c .before .calls-ok .ensures) ∙ not-true (c .before .calls-ok .result) (c .if2 .taken)) in
+    rw (ev, cl)
+
+spans-ok-requires : tie.Need-spans-ok-requires
+spans-ok-requires c κs = ((search needs, search needs), (rw (c .before .before .before .before .before .word-at3 .ensures, c .before .before .before .before .word-at4 .ensures) (c .before .before .before .before .before .before .before .before .before .pre .3), search needs, sym (c .before .calls-ok .ensures) ∙ not-false (c .before .calls-ok .result) (c .if2 .left)))
+
+sequences-ok-requires : tie.Need-sequences-ok-requires
+sequences-ok-requires c κs = ((search needs, search needs), (rw (c .before .before .before .before .before .before .before .before .word-at .ensures, c .before .before .before .before .before .before .before .word-at2 .ensures) (c .before .before .before .before .before .before .before .before .before .before .pre .2), search needs, sym (c .before .before .before .before .events-ok .ensures) ∙ not-false (c .before .before .before .before .events-ok .result) (c .before .before .before .if1 .left)))
+
+returns-3 : tie.Need-returns-3
+unfolding entriesOk
+returns-3 c =
+    let ev : every (eventOk (c .before .before .before .before .before .before .before .before .before .before .before .args .l .now)) 0 (wordAt (c .before .before .before .before .before .before .before .before .before .before .before .args .l .now) 5) ≡ true = rw (← c .before .before .before .before .before .before .before .before .word-at2 .ensures) (sym (c .before .before .before .before .before .events-ok .ensures) ∙ not-false (c .before .before .before .before .before .events-ok .result) (c .before .before .before .before .if1 .left)) in
+    let cl : every (callOk (c .before .before .before .before .before .before .before .before .before .before .before .args .l .now)) 0 (wordAt (c .before .before .before .before .before .before .before .before .before .before .before .args .l .now) 6) ≡ true = rw (← c .before .before .before .before .before .before .before .word-at3 .ensures) (sym (c .before .before .before .calls-ok .ensures) ∙ not-false (c .before .before .before .calls-ok .result) (c .before .before .if2 .left)) in
+    rw (ev, cl, c .before .spans-ok .ensures, c .sequences-ok .ensures, c .before .before .before .before .before .before .before .before .before .word-at .ensures, c .before .before .before .before .before .before .before .before .word-at2 .ensures, c .before .before .before .before .before .before .before .word-at3 .ensures)
+    (sym (and-assoc (every (parametersOk (c .before .before .before .before .before .before .before .before .before .before .before .args .l .now)) 0 (wordAt (c .before .before .before .before .before .before .before .before .before .before .before .args .l .now) 6)) (every (productionOk (c .before .before .before .before .before .before .before .before .before .before .before .args .l .now)) 0 (wordAt (c .before .before .before .before .before .before .before .before .before .before .before .args .l .now) 4)) (leb (total (sizeAt (c .before .before .before .before .before .before .before .before .before .before .before .args .l .now)) 0 (wordAt (c .before .before .before .before .before .before .before .before .before .before .before .args .l .now) 5)) 256)))
 
 pub entries-ok-spec : {M : Type 1} → statement M
 entries-ok-spec =
@@ -86,9 +79,12 @@ entries-ok-spec =
     cast-events
     word-at-requires-3
     cast-calls
+    word-at-requires-4
+    cast-parameters
     events-ok-requires
+    returns
     calls-ok-requires
-    parameters-ok-requires
-    productions-ok-requires
-    sizes-requires
-    returns)
+    returns-2
+    spans-ok-requires
+    sequences-ok-requires
+    returns-3)

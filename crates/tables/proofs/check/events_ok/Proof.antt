@@ -1,23 +1,15 @@
+-- `tables::check::events_ok` meets its contract.
 use borrow.Author.Needs.{needs}
--- uses
 use native.Mathlib.Omega.{arith}
-use Prim.Native.Nat.{ℕ, suc, _+_, _-_, _*_, _≤_, _<_}
-use mathlib.Core.Path.{_≡_, refl, sym, ap, _∙_}
-use mathlib.Core.Bool.{Bool, true, false, not, cond, _&&_, _||_}
-use mathlib.Core.List.{List, [], _∷_, _++_}
-use lib.ListN.{length, take, drop, getD, set}
-use Rattle.tables.specs.Checks.{textWordsOk, countWordsOk, headerOk, sumsOk, restZero, productionsRest, testsRest, detailsRest, callsRest, parametersRest, unusedOk, eventWordsOk, eventOk, textOf, callWordsOk, callOk, parameterOk, parametersOk, sizeOf, sizeAt, productionOk, entriesOk, checks}
-use Rattle.words.specs.Words.{wordAt}
-use Rattle.words.specs.Runs.{every, total}
-use Rattle.words.proofs.RunLaws.{every-more, total-more}
+use Prim.Native.Nat.{_-_, _≤_}
+use mathlib.Core.Path.{_≡_, refl, _∙_}
+use lib.ListN.{length}
+use Rattle.tables.specs.Checks.{eventOk}
+use Rattle.words.specs.Runs.{every}
+use Rattle.words.proofs.RunLaws.{every-more}
 use native.Mathlib.Nat.{zero-add}
--- end uses
 use Rattle.tables.proofs.check.events_ok.Statement.{statement}
 use Rattle.tables.proofs.check.events_ok.Tie as tie
-use Rattle.tables.proofs.check.events_ok.Reads as reads
-use Rattle.tables.proofs.check.events_ok.Lts as lts
-use Rattle.tables.proofs.check.event_ok.Reads as event-ok-reads
-use Rattle.words.proofs.word_at.Reads as word-at-reads
 
 abbrev Inv-loop : tie.InvT-loop
 Inv-loop l n ok₀ i₀ ok i = (i ≤ n) × ((5904 ≤ length l) × (n ≤ 256)) × (ok ≡ every (eventOk l) 0 i)
@@ -25,85 +17,65 @@ Inv-loop l n ok₀ i₀ ok i = (i ≤ n) × ((5904 ≤ length l) × (n ≤ 256))
 abbrev μ-loop : tie.MeasureT-loop
 μ-loop l n ok₀ i₀ ok i = n - i
 
--- src/check.rt:149:5
 loop-holds : tie.Need-loop-holds Inv-loop μ-loop
 unfolding every
 loop-holds c = (search needs, (search needs, search needs), refl)
 
--- src/check.rt:152:35
 add-word-at : tie.Need-add-word-at Inv-loop μ-loop
 add-word-at c = search needs
 
--- src/check.rt:152:17
 word-at-requires : tie.Need-word-at-requires Inv-loop μ-loop
 word-at-requires c κs = search needs
 
--- src/check.rt:153:35
 add-word-at-2 : tie.Need-add-word-at-2 Inv-loop μ-loop
 add-word-at-2 c = search needs
 
--- src/check.rt:153:17
 word-at-requires-2 : tie.Need-word-at-requires-2 Inv-loop μ-loop
 word-at-requires-2 c κs = search needs
 
--- src/check.rt:154:35
 add-word-at-3 : tie.Need-add-word-at-3 Inv-loop μ-loop
 add-word-at-3 c = search needs
 
--- src/check.rt:154:17
 word-at-requires-3 : tie.Need-word-at-requires-3 Inv-loop μ-loop
 word-at-requires-3 c κs = search needs
 
--- src/check.rt:155:35
 add-word-at-4 : tie.Need-add-word-at-4 Inv-loop μ-loop
 add-word-at-4 c = search needs
 
--- src/check.rt:155:17
 word-at-requires-4 : tie.Need-word-at-requires-4 Inv-loop μ-loop
 word-at-requires-4 c κs = search needs
 
--- src/check.rt:156:35
 add-word-at-5 : tie.Need-add-word-at-5 Inv-loop μ-loop
 add-word-at-5 c = search needs
 
--- src/check.rt:156:17
 word-at-requires-5 : tie.Need-word-at-requires-5 Inv-loop μ-loop
 word-at-requires-5 c κs = search needs
 
--- src/check.rt:157:35
 add-word-at-6 : tie.Need-add-word-at-6 Inv-loop μ-loop
 add-word-at-6 c = search needs
 
--- src/check.rt:157:17
 word-at-requires-6 : tie.Need-word-at-requires-6 Inv-loop μ-loop
 word-at-requires-6 c κs = search needs
 
--- src/check.rt:158:35
 add-word-at-7 : tie.Need-add-word-at-7 Inv-loop μ-loop
 add-word-at-7 c = search needs
 
--- src/check.rt:158:17
 word-at-requires-7 : tie.Need-word-at-requires-7 Inv-loop μ-loop
 word-at-requires-7 c κs = search needs
 
--- src/check.rt:151:15
 event-ok-requires : tie.Need-event-ok-requires Inv-loop μ-loop
 event-ok-requires c κs = search needs
 
--- src/check.rt:160:9
 add-i : tie.Need-add-i Inv-loop μ-loop
 add-i c = search needs
 
--- src/check.rt:149:5
 loop-less : tie.Need-loop-less Inv-loop μ-loop
 loop-less c = search needs
 
--- src/check.rt:149:5
 loop-again : tie.Need-loop-again Inv-loop μ-loop
 unfolding eventOk
 loop-again c = (search needs, (search needs, search needs), rw (every-more, zero-add, c .event-ok .ensures, c .before .before .before .before .before .before .before .word-at .ensures, c .before .before .before .before .before .before .word-at2 .ensures, c .before .before .before .before .before .word-at3 .ensures, c .before .before .before .before .word-at4 .ensures, c .before .before .before .word-at5 .ensures, c .before .before .word-at6 .ensures, c .before .word-at7 .ensures, c .before .before .before .before .before .before .before .before .before .loop .inv .2))
 
--- src/check.rt:143:1
 returns : tie.Need-returns Inv-loop μ-loop
 returns c =
     let e : c .before .loop .i ≡ c .before .before .before .args .n = omega arith in

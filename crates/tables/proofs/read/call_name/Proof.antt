@@ -1,45 +1,28 @@
+-- `tables::read::call_name` meets its contract.
 use borrow.Author.Needs.{needs}
--- uses
-use native.Mathlib.Omega.{arith}
-use Prim.Native.Nat.{ℕ, suc, _+_, _-_, _*_, _≤_, _<_}
-use mathlib.Core.Path.{_≡_, refl, sym, ap, _∙_}
-use mathlib.Core.Bool.{Bool, true, false, not, cond, _&&_, _||_}
-use mathlib.Core.List.{List, [], _∷_, _++_}
-use lib.ListN.{length, take, drop, getD, set}
-use Rattle.tables.specs.Reading.{directiveOf, directiveIn, mergedIn, firstLengthIn, secondLengthIn, productionCount, eventCount, callCount, parameterCount, parameterAt, markAt, nameAt, callParameters, parametersFrom, isFlag, detailOf, eventOf, eventAt, productionEvents, productionCalls, eventsFrom, callsFrom}
-use borrow.Author.Tests.{eq-eqb, ne-eqb}
--- end uses
+use Prim.Native.Nat.{_-_}
+use Rattle.tables.specs.Reading.{nameAt}
 use Rattle.tables.proofs.read.call_name.Statement.{statement}
 use Rattle.tables.proofs.read.call_name.Tie as tie
-use Rattle.tables.proofs.read.call_name.Reads as reads
-use Rattle.tables.proofs.read.call_name.Lts as lts
-use Rattle.words.proofs.word_at.Reads as word-at-reads
 
--- src/read.rt:124:34
 add-word-at : tie.Need-add-word-at
 add-word-at c = search needs
 
--- src/read.rt:124:16
 word-at-requires : tie.Need-word-at-requires
 word-at-requires c κs = search needs
 
--- src/read.rt:124:16
 cast-t5 : tie.Need-cast-t5
 cast-t5 c = search needs
 
--- src/read.rt:125:32
 add-word-at-2 : tie.Need-add-word-at-2
 add-word-at-2 c = search needs
 
--- src/read.rt:125:14
 word-at-requires-2 : tie.Need-word-at-requires-2
 word-at-requires-2 c κs = search needs
 
--- src/read.rt:125:14
 cast-t8 : tie.Need-cast-t8
 cast-t8 c = search needs
 
--- src/read.rt:119:1
 returns : tie.Need-returns
 unfolding nameAt
 returns c = rw (c .before .word-at .ensures, c .word-at2 .ensures)

@@ -1,51 +1,31 @@
+-- `tables::write::put_production` meets its contract.
 use borrow.Author.Needs.{needs}
--- uses
-use native.Mathlib.Omega.{arith}
-use Prim.Native.Nat.{ℕ, suc, _+_, _-_, _*_, _≤_, _<_}
-use mathlib.Core.Path.{_≡_, refl, sym, ap, _∙_}
-use mathlib.Core.Bool.{Bool, true, false, not, cond, _&&_, _||_}
-use mathlib.Core.List.{List, [], _∷_, _++_}
-use lib.ListN.{length, take, drop, getD, set}
-use Rattle.words.specs.Words.{putWord, cleared}
-use Rattle.tables.specs.Layout.{flag, isGiven, valueOf, directiveWord, flagsWord, lowWord, highWord}
-use Rattle.tables.specs.Writing.{putTest, putDetail, putEvent, putCall, putParameter, putProduction, putTexts, putCounts}
-use Rattle.tables.proofs.LoopLaws.{flag-le}
--- end uses
+use Prim.Native.Nat.{_-_}
+use Rattle.tables.specs.Writing.{putProduction}
 use Rattle.tables.proofs.write.put_production.Statement.{statement}
 use Rattle.tables.proofs.write.put_production.Tie as tie
-use Rattle.tables.proofs.write.put_production.Reads as reads
-use Rattle.tables.proofs.write.put_production.Lts as lts
-use Rattle.words.proofs.put_word.Reads as put-word-reads
 
--- src/write.rt:117:26
 add-put-word : tie.Need-add-put-word
 add-put-word c = search needs
 
--- src/write.rt:117:33
 cast-put-word : tie.Need-cast-put-word
 cast-put-word c = search needs
 
--- src/write.rt:117:5
 put-word-requires : tie.Need-put-word-requires
 put-word-requires c κs = search needs
 
--- src/write.rt:118:26
 add-put-word-2 : tie.Need-add-put-word-2
 add-put-word-2 c = search needs
 
--- src/write.rt:118:34
 cast-put-word-2 : tie.Need-cast-put-word-2
 cast-put-word-2 c = search needs
 
--- src/write.rt:118:5
 put-word-requires-2 : tie.Need-put-word-requires-2
 put-word-requires-2 c κs = search needs
 
--- src/write.rt:113:1
 same-length : tie.Need-same-length
 same-length c = search needs
 
--- src/write.rt:113:1
 returns : tie.Need-returns
 unfolding putProduction
 returns c = rw (c .before .before .put-word2 .ensures, c .before .before .before .before .before .before .put-word .ensures)

@@ -1,0 +1,144 @@
+-- Events judged one by one, and limits: what passes a limit still does so with more productions.
+use Prim.Native.Nat.{ℕ, _+_, _≤_}
+use native.Mathlib.Omega.{arith}
+use mathlib.Core.Path.{_≡_, refl, sym, ap, _∙_}
+use mathlib.Core.Bool.{Bool, true, false, _||_, false≢true}
+use mathlib.Core.List.{List, [], _∷_, _++_}
+use lib.Dec.{eqb, ltb}
+use lib.ListN.{length, length-append}
+use borrow.Author.Tests.{ltb-true, lt-ltb}
+use Rattle.model.specs.Lists.{any, inAll}
+use Rattle.model.specs.Numbers as Numbers
+use Rattle.model.specs.Limits.{productionLimit, eventLimit, callLimit, parameterLimit}
+use Rattle.model.specs.Events.{Written, WrittenEvent}
+use Rattle.model.specs.Counts.{sequence}
+use Rattle.model.specs.Tables.{Production}
+use Rattle.model.specs.Judging.{isUnknown, isOutOfRange, isUnbuilt, isListNotTaken, isColonMisplaced, isImpossible, eventNumber, keptEvent, keepUnless, judgedAs, judgedWritten, judgedMark, judged}
+use Rattle.model.specs.Names.{typeNamed}
+use Rattle.model.specs.Compiling.{productionPasses, eventsInAll, callsInAll, parametersInAll, totalsPass, passesLimit, EventsJudged, keep, refuse, keepOneMore, judgedNext, judgedAll}
+use Rattle.model.specs.declared.scan.KeyMark.{KeyMark}
+use Rattle.model.specs.declared.names.TypeName.{TypeName}
+use Rattle.model.specs.declared.events.KeptEvent.{KeptEvent}
+use Rattle.model.specs.declared.answers.Judged.{Judged}
+use Rattle.grammar.specs.Compiling as Grammar
+
+-- ---- Events
+
+pub events-kept : {es : List WrittenEvent} {ks : List KeptEvent} → Grammar.EventsKept es ks → judgedAll es ≡ keep ks
+unfolding judgedAll
+events-kept Grammar.EventsKept.nothing = refl
+events-kept (Grammar.EventsKept.more e d) = rw (e, events-kept d)
+
+pub events-refused : {es : List WrittenEvent} {n : ℕ} → Grammar.EventsRefused es n → judgedAll es ≡ refuse n
+unfolding judgedAll
+events-refused (Grammar.EventsRefused.here e) = rw e
+events-refused (Grammar.EventsRefused.later e d) = rw (e, events-refused d)
+
+pub data JudgedView (es : List WrittenEvent) : EventsJudged → Type 0 where
+  kept : {ks : List KeptEvent} → Grammar.EventsKept es ks → JudgedView es (keep ks)
+  refused : {n : ℕ} → Grammar.EventsRefused es n → JudgedView es (refuse n)
+
+judged-more : {e : WrittenEvent} {k : KeptEvent} {es : List WrittenEvent} {x : EventsJudged} → judged e ≡ Judged.Keep k → JudgedView es x
+    → JudgedView (e ∷ es) (keepOneMore k x)
+judged-more e (kept d) = kept (Grammar.EventsKept.more e d)
+judged-more e (refused d) = refused (Grammar.EventsRefused.later e d)
+
+judged-next : (e : WrittenEvent) (es : List WrittenEvent) (x : EventsJudged) → JudgedView es x → (j : Judged) → judged e ≡ j
+    → JudgedView (e ∷ es) (judgedNext j x)
+judged-next e es x v (Judged.Keep k) q = judged-more q v
+judged-next e es x v (Judged.Refuse n) q = refused (Grammar.EventsRefused.here q)
+
+pub judged-view : (es : List WrittenEvent) → JudgedView es (judgedAll es)
+unfolding judgedAll
+judged-view [] = kept Grammar.EventsKept.nothing
+judged-view (e ∷ es) = judged-next e es (judgedAll es) (judged-view es) (judged e) refl
+
+-- ---- No check on an event gives number 4
+
+abbrev isFour : Judged → Bool
+isFour (Judged.Keep k) = false
+isFour (Judged.Refuse n) = eqb n Numbers.notGrammar
+
+unless-not-four : (n : ℕ) (k : KeptEvent) → eqb n Numbers.notGrammar ≡ false → isFour (keepUnless n k) ≡ false
+unless-not-four n k e = go (eqb n 0) refl
+  where
+    go : (t : Bool) → eqb n 0 ≡ t → isFour (keepUnless n k) ≡ false
+    go true q = rw q
+    go false q = rw q e
+
+order-not-four : (a b c d e f : Bool) → eqb (Numbers.eventOrder a b c d e f) Numbers.notGrammar ≡ false
+order-not-four true b c d e f = refl
+order-not-four false true c d e f = refl
+order-not-four false false true d e f = refl
+order-not-four false false false true e f = refl
+order-not-four false false false false true f = refl
+order-not-four false false false false false true = refl
+order-not-four false false false false false false = refl
+
+named-not-four : (w : Written) (t : TypeName) → isFour (judgedAs w t) ≡ false
+unfolding eventNumber
+named-not-four w (TypeName.Known ty) =
+    unless-not-four (eventNumber w ty) (keptEvent w ty)
+    (order-not-four (isUnknown w ty) (isOutOfRange w ty) (isUnbuilt w ty) (isListNotTaken w ty) (isColonMisplaced w ty)
+    (isImpossible (keptEvent w ty)))
+named-not-four w TypeName.Unknown = refl
+
+mark-not-four : (m : KeyMark) (b : ℕ) → isFour (judgedMark m b) ≡ false
+mark-not-four KeyMark.Plain b = refl
+mark-not-four KeyMark.Control b = refl
+mark-not-four KeyMark.Quoted b = refl
+mark-not-four KeyMark.Meta b = refl
+
+judged-not-four : (e : WrittenEvent) → isFour (judged e) ≡ false
+unfolding judged judgedWritten
+judged-not-four (WrittenEvent.event w) = named-not-four w (typeNamed (w .typeName))
+judged-not-four (WrittenEvent.key k) = mark-not-four (k .mark) (k .byte)
+
+pub refused-not-four : {es : List WrittenEvent} {n : ℕ} → Grammar.EventsRefused es n → n ≡ Numbers.notGrammar → ⊥
+refused-not-four (Grammar.EventsRefused.here {e = e} q) f =
+    let z : true ≡ false = ap isFour (ap Judged.Refuse (sym f) ∙ sym q) ∙ judged-not-four e in absurd (false≢true (sym z))
+refused-not-four (Grammar.EventsRefused.later q d) f = refused-not-four d f
+
+-- ---- Limits
+
+or-mono : (a b c d : Bool) → (a ≡ true → c ≡ true) → (b ≡ true → d ≡ true) → (a || b) ≡ true → (c || d) ≡ true
+or-mono true b c d f g e = rw (f refl)
+or-mono false b true d f g e = refl
+or-mono false b false d f g e = g e
+
+any-mono : {A : Type 0} (test : A → Bool) (xs ys : List A) → any test xs ≡ true → any test (xs ++ ys) ≡ true
+any-mono test [] ys e = absurd (false≢true e)
+any-mono test (x ∷ xs) ys e = or-mono (test x) (any test xs) (test x) (any test (xs ++ ys)) (λ q. q) (any-mono test xs ys) e
+
+inAll-le : {A : Type 0} (measure : A → ℕ) (xs ys : List A) → inAll measure xs ≤ inAll measure (xs ++ ys)
+inAll-le measure [] ys = omega arith
+inAll-le measure (x ∷ xs) ys = omega (arith, inAll-le measure xs ys)
+
+ltb-mono : (n a b : ℕ) → a ≤ b → ltb n a ≡ true → ltb n b ≡ true
+ltb-mono n a b h e = lt-ltb n b (omega (arith, ltb-true n a e))
+
+totals-mono : (ps qs : List Production) → totalsPass ps ≡ true → totalsPass (ps ++ qs) ≡ true
+unfolding totalsPass
+totals-mono ps qs e =
+    or-mono _ _ _ _
+    (or-mono _ _ _ _
+    (or-mono _ _ _ _
+    (ltb-mono productionLimit (length ps) (length (ps ++ qs)) (omega (arith, length-append ps qs)))
+    (ltb-mono eventLimit (eventsInAll ps) (eventsInAll (ps ++ qs)) (inAll-le (λ p. length (sequence p)) ps qs)))
+    (ltb-mono callLimit (callsInAll ps) (callsInAll (ps ++ qs)) (inAll-le (λ p. length (p .calls)) ps qs)))
+    (ltb-mono parameterLimit (parametersInAll ps) (parametersInAll (ps ++ qs))
+    (inAll-le (λ p. inAll (λ c. length (c .parameters)) (p .calls)) ps qs))
+    e
+
+passes-more : (ps qs : List Production) → passesLimit ps ≡ true → passesLimit (ps ++ qs) ≡ true
+unfolding passesLimit
+passes-more ps qs e =
+    or-mono (any productionPasses ps) (totalsPass ps) (any productionPasses (ps ++ qs)) (totalsPass (ps ++ qs))
+    (any-mono productionPasses ps qs) (totals-mono ps qs) e
+
+pub passes-less : (ps qs : List Production) → passesLimit (ps ++ qs) ≡ false → passesLimit ps ≡ false
+passes-less ps qs e = go (passesLimit ps) refl
+  where
+    go : (t : Bool) → passesLimit ps ≡ t → passesLimit ps ≡ false
+    go true q = absurd (false≢true (sym e ∙ passes-more ps qs q))
+    go false q = q

@@ -1,0 +1,15 @@
+pub mod Places
+pub mod Params
+pub mod Calls
+pub mod KeySequences
+pub mod Modifiers
+pub mod ModifierLists
+pub mod Events
+pub mod Productions
+pub mod Kept
+pub mod Lines
+pub mod Steps
+pub mod Texts
+pub mod OneReading
+pub mod Exact
+pub mod Examples

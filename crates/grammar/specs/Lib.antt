@@ -1,0 +1,11 @@
+pub mod Bytes
+pub mod Tokens
+pub mod Calls
+pub mod KeySequences
+pub mod Modifiers
+pub mod Events
+pub mod Productions
+pub mod Texts
+pub mod Compiling
+pub mod Exact
+pub mod Examples
