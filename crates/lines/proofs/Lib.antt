@@ -1,0 +1,8 @@
+pub mod Sums
+pub mod Verdict
+pub mod Kept
+pub mod Steps
+pub mod Turns
+pub mod Calls
+pub mod Added
+pub mod Sources

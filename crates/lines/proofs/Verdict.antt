@@ -1,0 +1,191 @@
+-- A line judged by counts, the same as the model's outcome.
+use Prim.Native.Nat.{ℕ, _+_}
+use native.Mathlib.Omega.{arith}
+use mathlib.Core.Path.{_≡_, refl, sym, ap, _∙_}
+use mathlib.Core.Bool.{Bool, true, false, cond, _||_}
+use mathlib.Core.List.{List, [], _∷_, _++_, map}
+use lib.Dec.{ltb}
+use lib.ListN.{length, length-map}
+use Rattle.model.specs.Lists.{any, inAll}
+use Rattle.model.specs.Limits.{sequenceLimit, callsOfProductionLimit, parametersOfCallLimit}
+use Rattle.model.specs.Numbers.{notGrammar, pastLimit}
+use Rattle.model.specs.Tables.{Call, Production}
+use Rattle.model.specs.Counts.{sequence, expanded}
+use Rattle.model.specs.Events.{WrittenEvent, EventsRead, events, leftSide}
+use Rattle.model.specs.Calls.{WrittenCall, CallsRead, calls, rightSide}
+use Rattle.model.specs.Compiling.{productionPasses, passesLimit, withCalls, withEvents, lineRead, EventsJudged, keep, judgedAll, callOf, LineOutcome, add, counted, lineJudged, lineFrom, lineOutcome}
+use Rattle.model.specs.declared.events.KeptEvent.{KeptEvent}
+use Rattle.scanner.specs.Sides.{leftOf, rightOf, parametersOf, mostOf}
+use Rattle.scanner.specs.declared.sides.LeftRead.{LeftRead}
+use Rattle.scanner.specs.declared.sides.RightRead.{RightRead}
+use Rattle.scanner.proofs.Right.{most-passes}
+use Rattle.lines.specs.declared.totals.Totals.{Totals}
+use Rattle.lines.specs.declared.totals.Line.{Line}
+use Rattle.lines.specs.declared.left.LeftJudged.{LeftJudged}
+use Rattle.lines.specs.declared.line.LineJudged.{LineJudged}
+use Rattle.lines.specs.Totals.{parametersIn, totalsOf, lineOf, withLine}
+use Rattle.lines.specs.Left.{IsRead, keptCounts, sideJudged}
+use Rattle.lines.specs.Line.{startOf, callsStart, judgedOf, linePasses, allPass, limited}
+use Rattle.lines.proofs.Sums.{passes-more}
+
+-- ---- What the code comes to
+
+abbrev pub leftVerdict : Totals → ℕ → (count parameters most : ℕ) → LeftJudged → LineJudged
+leftVerdict t right count parameters most (LeftJudged.Refuse n) = LineJudged.Refuse n
+leftVerdict t right count parameters most (LeftJudged.Keep kept elements) =
+    limited t (record { events = kept; elements = elements; calls = count; parameters = parameters; right = right }) most
+
+abbrev pub rightVerdict : Totals → ℕ → LeftJudged → RightRead → LineJudged
+rightVerdict t right j RightRead.Broken = LineJudged.Refuse notGrammar
+rightVerdict t right j (RightRead.Right count parameters most) = leftVerdict t right count parameters most j
+
+abbrev pub sidesVerdict : Totals → List ℕ → LeftJudged → LeftRead → LineJudged
+sidesVerdict t l j LeftRead.Broken = LineJudged.Refuse notGrammar
+sidesVerdict t l j (LeftRead.Left next) = rightVerdict t next j (rightOf (rightSide l next))
+
+-- ---- A production by its counts
+
+module _ {A B : Type 0} where
+  any-map : (test : B → Bool) (f : A → B) (xs : List A) → any test (map f xs) ≡ any (λ x. test (f x)) xs
+  any-map test f [] = refl
+  any-map test f (x ∷ xs) = ap (λ (b : Bool). test (f x) || b) (any-map test f xs)
+
+  sum-map : (measure : B → ℕ) (f : A → B) (xs : List A) → inAll measure (map f xs) ≡ inAll (λ x. measure (f x)) xs
+  sum-map measure f [] = refl
+  sum-map measure f (x ∷ xs) = ap (λ (n : ℕ). measure (f x) + n) (sum-map measure f xs)
+
+abbrev pub productionOf : ℕ → List KeptEvent → List WrittenCall → Production
+productionOf base ks cs = record { events = ks; calls = map (callOf base) cs }
+
+module _ (base : ℕ) (ks : List KeptEvent) (cs : List WrittenCall) where
+  calls-count : length (map (callOf base) cs) ≡ length cs
+  calls-count = length-map cs (callOf base)
+
+  parameters-shifted : (c : WrittenCall) → length (callOf base c .parameters) ≡ parametersOf c
+  parameters-shifted c = length-map (c .parameters) _
+
+  parameters-count : parametersIn (productionOf base ks cs) ≡ inAll parametersOf cs
+  parameters-count = sum-map (λ (c : Call). length (c .parameters)) (callOf base) cs ∙ each cs
+    where
+      each : (ds : List WrittenCall) → inAll (λ d. length (callOf base d .parameters)) ds ≡ inAll parametersOf ds
+      each [] = refl
+      each (d ∷ ds) = λ i. parameters-shifted d i + each ds i
+
+  counts-of : (right : ℕ)
+      → lineOf right (productionOf base ks cs)
+      ≡ record { events = length ks; elements = length (expanded ks); calls = length cs; parameters = inAll parametersOf cs; right = right }
+  unfolding lineOf sequence
+  counts-of right = λ i.
+      record {
+        events = length ks;
+        elements = length (expanded ks);
+        calls = calls-count i;
+        parameters = parameters-count i;
+        right = right;
+      }
+
+  parameters-pass :
+      any (λ (c : Call). ltb parametersOfCallLimit (length (c .parameters))) (map (callOf base) cs) ≡ ltb parametersOfCallLimit (mostOf cs)
+  parameters-pass =
+      any-map (λ (c : Call). ltb parametersOfCallLimit (length (c .parameters))) (callOf base) cs
+      ∙ each cs
+      ∙ most-passes parametersOfCallLimit cs
+    where
+      each : (ds : List WrittenCall)
+          → any (λ d. ltb parametersOfCallLimit (length (callOf base d .parameters))) ds
+          ≡ any (λ d. ltb parametersOfCallLimit (length (d .parameters))) ds
+      each [] = refl
+      each (d ∷ ds) = λ i. ltb parametersOfCallLimit (parameters-shifted d i) || each ds i
+
+  line-passes : (right : ℕ) → productionPasses (productionOf base ks cs) ≡ linePasses (lineOf right (productionOf base ks cs)) (mostOf cs)
+  unfolding productionPasses linePasses lineOf
+  line-passes right = λ i.
+      ltb sequenceLimit (length (sequence (productionOf base ks cs)))
+      || ltb callsOfProductionLimit (length (map (callOf base) cs))
+      || parameters-pass i
+
+-- ---- The two verdicts are the same
+
+-- the limits: in the model, of all productions with this one
+module _ (ps : List Production) (kept : passesLimit ps ≡ false) (base right : ℕ) (ks : List KeptEvent) (cs : List WrittenCall) where
+  passes : passesLimit (ps ++ (productionOf base ks cs ∷ []))
+      ≡ linePasses (lineOf right (productionOf base ks cs)) (mostOf cs)
+      || allPass (withLine (totalsOf ps) (lineOf right (productionOf base ks cs)))
+  passes =
+      passes-more ps (productionOf base ks cs) right kept
+      ∙ ap (λ (b : Bool). b || allPass (withLine (totalsOf ps) (lineOf right (productionOf base ks cs)))) (line-passes base ks cs right)
+
+  limits : leftVerdict (totalsOf ps) right (length cs) (inAll parametersOf cs) (mostOf cs) (keptCounts (keep ks))
+      ≡ judgedOf right (counted ps (productionOf base ks cs))
+  unfolding limited
+  limits =
+      ap (λ (line : Line). limited (totalsOf ps) line (mostOf cs)) (sym (counts-of base ks cs right))
+      ∙ ap (λ (b : Bool). cond b (LineJudged.Refuse pastLimit) (LineJudged.Add (lineOf right (productionOf base ks cs)))) (sym passes)
+      ∙ pick (passesLimit (ps ++ (productionOf base ks cs ∷ [])))
+    where
+      pick : (b : Bool)
+          → cond b (LineJudged.Refuse pastLimit) (LineJudged.Add (lineOf right (productionOf base ks cs)))
+          ≡ judgedOf right (cond b (LineOutcome.refuse pastLimit) (add (productionOf base ks cs)))
+      pick true = refl
+      pick false = refl
+
+module _ (ps : List Production) (kept : passesLimit ps ≡ false) (base : ℕ) where
+  judged-same : (right : ℕ) (j : EventsJudged) (cs : List WrittenCall)
+      → leftVerdict (totalsOf ps) right (length cs) (inAll parametersOf cs) (mostOf cs) (keptCounts j)
+      ≡ judgedOf right (lineJudged ps base j cs)
+  judged-same right (keep ks) cs = limits ps kept base right ks cs
+  judged-same right (EventsJudged.refuse n) cs = refl
+
+  calls-same : (right : ℕ) (es : List WrittenEvent) (r : CallsRead)
+      → rightVerdict (totalsOf ps) right (keptCounts (judgedAll es)) (rightOf r) ≡ judgedOf right (lineFrom ps base (withCalls es r))
+  calls-same right es CallsRead.broken = refl
+  calls-same right es (calls cs) = judged-same right (judgedAll es) cs
+
+  pub verdict : (l : List ℕ)
+      → sidesVerdict (totalsOf ps) l (sideJudged (leftSide l)) (leftOf (leftSide l)) ≡ judgedOf (callsStart l) (lineOutcome ps base l)
+  unfolding callsStart lineOutcome lineRead
+  verdict l = go (leftSide l)
+    where
+      go : (r : EventsRead)
+          → sidesVerdict (totalsOf ps) l (sideJudged r) (leftOf r) ≡ judgedOf (startOf r) (lineFrom ps base (withEvents l r))
+      go EventsRead.broken = refl
+      go (events es next) = calls-same next es (rightSide l next)
+
+-- ---- The ways through the code
+
+pub left-is-read : (r : EventsRead) (next : ℕ) → leftOf r ≡ LeftRead.Left next → IsRead r
+left-is-read EventsRead.broken next e = let z : _≡_ {A = ℕ} 0 1 = cc in absurd (omega arith)
+left-is-read (events es end) next e = tt
+
+-- an answer that is the verdict on the totals is the model's for all productions that have them
+abbrev pub Answers : List ℕ → Totals → LineJudged → Type 0
+Answers l t r =
+    (ps : List Production) (base : ℕ) → t ≡ totalsOf ps → passesLimit ps ≡ false → r ≡ judgedOf (callsStart l) (lineOutcome ps base l)
+
+module _ (l : List ℕ) (t : Totals) where
+  answered : (r : LineJudged) → r ≡ sidesVerdict t l (sideJudged (leftSide l)) (leftOf (leftSide l)) → Answers l t r
+  answered r e ps base q h =
+      e ∙ ap (λ (s : Totals). sidesVerdict s l (sideJudged (leftSide l)) (leftOf (leftSide l))) q ∙ verdict ps h base l
+
+  pub no-left : leftOf (leftSide l) ≡ LeftRead.Broken → Answers l t (LineJudged.Refuse notGrammar)
+  no-left e = answered (LineJudged.Refuse notGrammar) (ap (sidesVerdict t l (sideJudged (leftSide l))) (sym e))
+
+  module _ (next : ℕ) (e : leftOf (leftSide l) ≡ LeftRead.Left next) where
+    with-left : (r : LineJudged) → r ≡ rightVerdict t next (sideJudged (leftSide l)) (rightOf (rightSide l next)) → Answers l t r
+    with-left r q = answered r (q ∙ ap (sidesVerdict t l (sideJudged (leftSide l))) (sym e))
+
+    pub no-right : rightOf (rightSide l next) ≡ RightRead.Broken → Answers l t (LineJudged.Refuse notGrammar)
+    no-right q = with-left (LineJudged.Refuse notGrammar) (ap (rightVerdict t next (sideJudged (leftSide l))) (sym q))
+
+    module _ (count parameters most : ℕ) (q : rightOf (rightSide l next) ≡ RightRead.Right count parameters most) where
+      with-right : (r : LineJudged) → r ≡ leftVerdict t next count parameters most (sideJudged (leftSide l)) → Answers l t r
+      with-right r s = with-left r (s ∙ ap (rightVerdict t next (sideJudged (leftSide l))) (sym q))
+
+      pub event-refused : (n : ℕ) → sideJudged (leftSide l) ≡ LeftJudged.Refuse n → Answers l t (LineJudged.Refuse n)
+      event-refused n s = with-right (LineJudged.Refuse n) (ap (leftVerdict t next count parameters most) (sym s))
+
+      pub all-kept : (kept elements : ℕ) (r : LineJudged) → sideJudged (leftSide l) ≡ LeftJudged.Keep kept elements
+          → r
+          ≡ limited t (record { events = kept; elements = elements; calls = count; parameters = parameters; right = next }) most
+          → Answers l t r
+      all-kept kept elements r s u = with-right r (u ∙ ap (leftVerdict t next count parameters most) (sym s))

@@ -1,0 +1,4 @@
+pub mod Totals
+pub mod Left
+pub mod Line
+pub mod Ranges

@@ -1,0 +1,44 @@
+-- A line, judged: what the code keeps of the model's outcome.
+use Prim.Native.Nat.{ℕ}
+use mathlib.Core.Bool.{Bool, cond, _||_}
+use mathlib.Core.List.{List}
+use lib.Dec.{ltb}
+use Rattle.model.specs.Limits.{productionLimit, sequenceLimit, eventLimit, callsOfProductionLimit, callLimit, parametersOfCallLimit, parameterLimit}
+use Rattle.model.specs.Numbers.{pastLimit}
+use Rattle.model.specs.Events.{EventsRead, events, leftSide}
+use Rattle.model.specs.Compiling.{LineOutcome, add}
+use Rattle.lines.specs.declared.totals.Totals.{Totals}
+use Rattle.lines.specs.declared.totals.Line.{Line}
+use Rattle.lines.specs.declared.line.LineJudged.{LineJudged}
+use Rattle.lines.specs.Totals.{lineOf, withLine}
+
+-- where the calls of a line begin
+abbrev pub startOf : EventsRead → ℕ
+startOf EventsRead.broken = 0
+startOf (events es next) = next
+
+unfoldable pub callsStart : List ℕ → ℕ
+callsStart l = startOf (leftSide l)
+
+-- the refusal, or the production by its counts
+abbrev pub judgedOf : ℕ → LineOutcome → LineJudged
+judgedOf right (add p) = LineJudged.Add (lineOf right p)
+judgedOf right (LineOutcome.refuse n) = LineJudged.Refuse n
+
+-- a limit of one production is passed; `most` is the largest number of parameters that one call has
+unfoldable pub linePasses : Line → ℕ → Bool
+linePasses line most =
+    ltb sequenceLimit (line .elements) || ltb callsOfProductionLimit (line .calls) || ltb parametersOfCallLimit most
+
+-- a limit in all is passed
+unfoldable pub allPass : Totals → Bool
+allPass t =
+    ltb productionLimit (t .productions)
+    || ltb eventLimit (t .elements)
+    || ltb callLimit (t .calls)
+    || ltb parameterLimit (t .parameters)
+
+-- "then 11 with that line counted"
+unfoldable pub limited : Totals → Line → ℕ → LineJudged
+limited t line most =
+    cond (linePasses line most || allPass (withLine t line)) (LineJudged.Refuse pastLimit) (LineJudged.Add line)

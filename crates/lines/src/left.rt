@@ -1,0 +1,149 @@
+// The events of a line that is in the grammar, judged in order: the earliest refusal, or how much is kept.
+use counts::element_count;
+use judge::events::judge_key;
+use judge::spans::judge_event;
+use model::answers::Judged;
+use model::scan::AfterEvent;
+use model::scan::KeyRead;
+use scanner::events::EventRead;
+use scanner::events::EventSpans;
+use scanner::events::read_event;
+use scanner::keys::key_at;
+use scanner::types::after_event_at;
+ghost use mathlib.Core.Path.{_≡_};
+ghost use mathlib.Core.List.{[], _∷_};
+ghost use Prim.Native.Nat.{_+_, _≤_};
+ghost use lib.ListN.{length};
+ghost use Rattle.model.specs.Limits.{textLimit};
+ghost use Rattle.model.specs.Events.{event, keysFrom, eventsAt, leftSide};
+ghost use Rattle.model.specs.Compiling.{judgedAll};
+ghost use Rattle.judge.specs.Spans.{writtenIn, SpansIn};
+ghost use Rattle.lines.specs.Left.{IsRead, keptCounts, sideJudged, goingOn, stepJudged};
+
+pub enum LeftJudged {
+    Refuse(u8),
+    // How many events are kept, and how many they are after expansion.
+    Keep { events: usize, elements: usize },
+}
+
+// The same of what stands at a position, with where reading goes on.
+pub enum StepJudged {
+    Refuse(u8),
+    Keep {
+        events: usize,
+        elements: usize,
+        next: usize,
+    },
+}
+
+// The characters of a key sequence, from a position past the opening quote.
+pub fn judge_keys(l: &[u8], at: usize) -> LeftJudged
+    requires { ⌜ IsRead (keysFrom (length (now l) + 1) (now l) at) ⌝ }
+    ensures { λ r. ⌜ r ≡ sideJudged (keysFrom (length (now (l .entry)) + 1) (now (l .entry)) at) ⌝ }
+{
+    let mut i = at;
+    let mut count: usize = 0;
+    loop {
+        match key_at(l, i) {
+            KeyRead::Broken => return LeftJudged::Refuse(4),
+            KeyRead::End(_) => {
+                return LeftJudged::Keep {
+                    events: count,
+                    elements: count,
+                };
+            }
+            KeyRead::Key { mark, byte, next } => match judge_key(mark, byte) {
+                Judged::Refuse(n) => return LeftJudged::Refuse(n),
+                Judged::Keep(_) => {
+                    count += 1;
+                    i = next;
+                }
+            },
+        }
+    }
+}
+
+pub fn going_on(judged: LeftJudged, next: usize) -> StepJudged
+    ensures { λ r. ⌜ r ≡ goingOn judged next ⌝ }
+{
+    match judged {
+        LeftJudged::Refuse(n) => StepJudged::Refuse(n),
+        LeftJudged::Keep { events, elements } => StepJudged::Keep {
+            events,
+            elements,
+            next,
+        },
+    }
+}
+
+// One event that is no key sequence.
+pub fn judge_plain(l: &[u8], spans: EventSpans) -> LeftJudged
+    requires { ⌜ SpansIn (length (now l)) spans ⌝ }
+    ensures { λ r. ⌜ r ≡ keptCounts (judgedAll (event (writtenIn (now (l .entry)) spans) ∷ [])) ⌝ }
+{
+    match judge_event(l, spans) {
+        Judged::Refuse(n) => LeftJudged::Refuse(n),
+        Judged::Keep(e) => LeftJudged::Keep {
+            events: 1,
+            elements: element_count(e.code, e.count),
+        },
+    }
+}
+
+// What stands at a position: an event, or a key sequence.
+pub fn judge_at(l: &[u8], at: usize) -> StepJudged
+    requires { ⌜ at ≤ length (now l) ⌝ }
+    ensures { λ r. ⌜ r ≡ stepJudged (eventsAt (now (l .entry)) at) ⌝ }
+{
+    match read_event(l, at) {
+        EventRead::Broken => StepJudged::Refuse(4),
+        EventRead::Plain(spans) => {
+            let detail = spans.detail;
+            let judged = judge_plain(l, spans);
+            going_on(judged, detail.end)
+        }
+        EventRead::Keys {
+            start,
+            count: _,
+            next,
+        } => {
+            let judged = judge_keys(l, start);
+            going_on(judged, next)
+        }
+    }
+}
+
+// All events of a line whose left side is in the grammar.
+pub fn judge_left(l: &[u8]) -> LeftJudged
+    requires { ⌜ (length (now l) ≤ textLimit) × IsRead (leftSide (now l)) ⌝ }
+    ensures { λ r. ⌜ r ≡ sideJudged (leftSide (now (l .entry))) ⌝ }
+{
+    let mut at: usize = 0;
+    let mut kept: usize = 0;
+    let mut expanded: usize = 0;
+    loop {
+        match judge_at(l, at) {
+            StepJudged::Refuse(n) => return LeftJudged::Refuse(n),
+            StepJudged::Keep {
+                events,
+                elements,
+                next,
+            } => {
+                kept += events;
+                expanded += elements;
+                match after_event_at(l, next) {
+                    AfterEvent::Broken => return LeftJudged::Refuse(4),
+                    AfterEvent::Comma(next) => {
+                        at = next;
+                    }
+                    AfterEvent::Colon(_) => {
+                        return LeftJudged::Keep {
+                            events: kept,
+                            elements: expanded,
+                        };
+                    }
+                }
+            }
+        }
+    }
+}
