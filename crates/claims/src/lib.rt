@@ -1,0 +1,1 @@
+// The claims that no single call states. specs/ words them, and proofs/ shows them.

@@ -1,0 +1,9 @@
+pub mod StateLaws
+pub mod TableFacts
+pub mod EventLaws
+pub mod FollowLaws
+pub mod PassLaws
+pub mod TypeLaws
+pub mod MoveLaws
+pub mod MatchLaws
+pub mod NextLaws

@@ -1,0 +1,284 @@
+-- One pass over the productions finds what model's rules ask of the table.
+use Prim.Native.Nat.{ℕ, suc, _+_, _-_, _≤_, _<_}
+use native.Mathlib.Omega.{arith}
+use native.Mathlib.Numerals.{add-one}
+use borrow.Author.Tests.{eq-eqb, ne-eqb, eqb-true, eqb-false}
+use mathlib.Core.Path.{_≡_, refl, sym, ap, ap₂, _∙_}
+use mathlib.Core.Bool.{Bool, true, false, cond, _&&_, _||_}
+use mathlib.Core.Option.{Option, none, some}
+use mathlib.Core.List.{List, [], _∷_}
+use lib.Dec.{eqb}
+use lib.ListN.{length, getD, take, drop}
+use lib.Seq.{slice-cons, slice-empty}
+use Rattle.words.specs.Words.{wordAt}
+use Rattle.words.specs.Runs.{run, total}
+use Rattle.words.proofs.RunLaws.{total-more}
+use Rattle.model.specs.Lists.{any, earliest}
+use Rattle.model.specs.Tables.{Production, Table}
+use Rattle.model.specs.Counts.{Element, expanded, sequence}
+use Rattle.model.specs.Matching.{fits, follows, readsAsPrefix, isWholeSequence, readingOf}
+use Rattle.model.specs.Selection.{Reading}
+use Rattle.model.specs.declared.events.Event.{Event}
+use Rattle.machine.specs.Kept.{longestEnd, chosenIn}
+use Rattle.machine.proofs.Track.{longest-yes, longest-no}
+use Rattle.tables.specs.Layout.{productionEventsAt}
+use Rattle.tables.specs.Reading.{productionCount, productionEvents, eventsFrom, eventAt, productionAt, decode}
+use Rattle.matcher.specs.declared.walk.Followed.{Followed}
+use Rattle.matcher.specs.declared.walk.Passed.{Passed}
+use Rattle.matcher.specs.State.{zeroEvent}
+use Rattle.matcher.specs.Walk.{walked, followed, passNext, passes, passed, passedIn}
+
+-- ---- One production
+
+abbrev reads : Followed → Bool
+reads Followed.No = false
+reads Followed.Prefix = true
+reads Followed.Whole = true
+
+abbrev completes : Followed → Bool
+completes Followed.No = false
+completes Followed.Prefix = false
+completes Followed.Whole = true
+
+module _ (map : List ℕ) (limit : ℕ) where
+  walked-reads : (two one : Option Event) (els : List Element) (xs : List Event)
+      → reads (walked map limit two one els xs) ≡ follows map limit two one els xs
+  unfolding walked follows
+  walked-reads two one [] [] = refl
+  walked-reads two one (el ∷ els) [] = refl
+  walked-reads two one [] (x ∷ xs) = refl
+  walked-reads two one (el ∷ els) (x ∷ xs) = go (fits map limit two el x) refl (walked-reads one (some x) els xs)
+    where
+      go : (b : Bool) → fits map limit two el x ≡ b
+          → reads (walked map limit one (some x) els xs) ≡ follows map limit one (some x) els xs
+          → reads (cond b (walked map limit one (some x) els xs) Followed.No) ≡ b && follows map limit one (some x) els xs
+      go true q i = i
+      go false q i = refl
+
+  eqb-suc : (a b : ℕ) → eqb (suc a) (suc b) ≡ eqb a b
+  eqb-suc a b = go (eqb a b) refl
+    where
+      go : (t : Bool) → eqb a b ≡ t → eqb (suc a) (suc b) ≡ t
+      go true q = let e : a ≡ b = eqb-true a b q in eq-eqb (suc a) (suc b) (ap suc e)
+      go false q = let n : a ≡ b → ⊥ = eqb-false a b q in ne-eqb (suc a) (suc b) (λ h. n (omega arith))
+
+  and-false : (a : Bool) → a && false ≡ false
+  and-false true = refl
+  and-false false = refl
+
+  walked-completes : (two one : Option Event) (els : List Element) (xs : List Event)
+      → completes (walked map limit two one els xs) ≡ eqb (length xs) (length els) && follows map limit two one els xs
+  unfolding walked follows
+  walked-completes two one [] [] = refl
+  walked-completes two one (el ∷ els) [] = rw (ne-eqb 0 (suc (length els)) (λ h. omega arith))
+  walked-completes two one [] (x ∷ xs) = sym (and-false (eqb (suc (length xs)) 0))
+  walked-completes two one (el ∷ els) (x ∷ xs) =
+      rw (eqb-suc (length xs) (length els)) (go (fits map limit two el x) (walked-completes one (some x) els xs))
+    where
+      go : (b : Bool)
+          → completes (walked map limit one (some x) els xs) ≡ eqb (length xs) (length els) && follows map limit one (some x) els xs
+          → completes (cond b (walked map limit one (some x) els xs) Followed.No)
+          ≡ eqb (length xs) (length els) && (b && follows map limit one (some x) els xs)
+      go true i = i
+      go false i = sym (and-false (eqb (length xs) (length els)))
+
+  followed-reads : (xs : List Event) (p : Production) → reads (followed map limit xs p) ≡ readsAsPrefix map limit xs p
+  unfolding followed readsAsPrefix
+  followed-reads xs p = walked-reads none none (sequence p) xs
+
+  followed-completes : (xs : List Event) (p : Production) → completes (followed map limit xs p) ≡ isWholeSequence map limit xs p
+  unfolding followed isWholeSequence readsAsPrefix
+  followed-completes xs p = walked-completes none none (sequence p) xs
+
+-- ---- All productions
+
+abbrev pub someReads : Passed → Bool
+someReads Passed.No = false
+someReads Passed.Prefix = true
+someReads (Passed.Chosen p) = true
+
+abbrev pub chosenBy : Passed → Option ℕ
+chosenBy Passed.No = none
+chosenBy Passed.Prefix = none
+chosenBy (Passed.Chosen p) = some p
+
+module _ (f : Production → Followed) where
+  passes-reads : (i : ℕ) (seen : Bool) (ps : List Production) → someReads (passes f i seen ps) ≡ seen || any (λ p. reads (f p)) ps
+  unfolding passes
+  passes-reads i true [] = refl
+  passes-reads i false [] = refl
+  passes-reads i seen (p ∷ ps) = go (f p) refl (passes-reads (suc i) seen ps) (passes-reads (suc i) true ps)
+    where
+      true-or : (s : Bool) → true ≡ s || true
+      true-or true = refl
+      true-or false = refl
+
+      go : (r : Followed) → f p ≡ r
+          → someReads (passes f (suc i) seen ps) ≡ seen || any (λ p. reads (f p)) ps
+          → someReads (passes f (suc i) true ps) ≡ true
+          → someReads (passNext r i (passes f (suc i) seen ps) (passes f (suc i) true ps)) ≡ seen || (reads r || any (λ p. reads (f p)) ps)
+      go Followed.No q a b = a
+      go Followed.Prefix q a b = b ∙ true-or seen
+      go Followed.Whole q a b = true-or seen
+
+  passes-chosen : (i : ℕ) (seen : Bool) (ps : List Production) → chosenBy (passes f i seen ps) ≡ earliest (λ p. completes (f p)) i ps
+  unfolding passes
+  passes-chosen i true [] = refl
+  passes-chosen i false [] = refl
+  passes-chosen i seen (p ∷ ps) = go (f p) refl (passes-chosen (suc i) seen ps) (passes-chosen (suc i) true ps)
+    where
+      go : (r : Followed) → f p ≡ r
+          → chosenBy (passes f (suc i) seen ps) ≡ earliest (λ p. completes (f p)) (suc i) ps
+          → chosenBy (passes f (suc i) true ps) ≡ earliest (λ p. completes (f p)) (suc i) ps
+          → chosenBy (passNext r i (passes f (suc i) seen ps) (passes f (suc i) true ps))
+          ≡ cond (completes r) (some i) (earliest (λ p. completes (f p)) (suc i) ps)
+      go Followed.No q a b = a
+      go Followed.Prefix q a b = b
+      go Followed.Whole q a b = refl
+
+any-each : {A : Type 0} (f g : A → Bool) → ((x : A) → f x ≡ g x) → (xs : List A) → any f xs ≡ any g xs
+any-each f g h [] = refl
+any-each f g h (x ∷ xs) = ap₂ _||_ (h x) (any-each f g h xs)
+
+earliest-each : {A : Type 0} (f g : A → Bool) → ((x : A) → f x ≡ g x) → (i : ℕ) (xs : List A) → earliest f i xs ≡ earliest g i xs
+earliest-each f g h i [] = refl
+earliest-each f g h i (x ∷ xs) = ap₂ (λ (b : Bool) (o : Option ℕ). cond b (some i) o) (h x) (earliest-each f g h (suc i) xs)
+
+module _ (t : Table) (map : List ℕ) (limit : ℕ) where
+  pub passed-prefix : (xs : List Event) → someReads (passed t map limit xs) ≡ readingOf t map limit .prefix xs
+  unfolding passed
+  passed-prefix xs =
+      passes-reads (followed map limit xs) 0 false (t .productions)
+      ∙ any-each (λ p. reads (followed map limit xs p)) (readsAsPrefix map limit xs) (followed-reads map limit xs) (t .productions)
+
+  pub passed-chosen : (xs : List Event) → chosenBy (passed t map limit xs) ≡ readingOf t map limit .chosen xs
+  unfolding passed
+  passed-chosen xs =
+      passes-chosen (followed map limit xs) 0 false (t .productions)
+      ∙ earliest-each (λ p. completes (followed map limit xs p)) (isWholeSequence map limit xs) (followed-completes map limit xs) 0 (t .productions)
+
+  pub passed-in : (xs : List Event) → chosenBy (passedIn t map limit xs) ≡ chosenIn (readingOf t map limit) xs
+  passed-in [] = refl
+  passed-in (x ∷ xs) = passed-chosen (x ∷ xs)
+
+-- ---- The pass as a loop over the table's bytes
+
+module _ (map : List ℕ) (limit : ℕ) (l : List ℕ) (xs : List Event) where
+  -- what is left of it at production p
+  pub onward : ℕ → Bool → Passed
+  onward p seen = passes (followed map limit xs) p seen (run (productionAt l) p (productionCount l - p))
+
+  pub onward-start : passed (decode l) map limit xs ≡ onward 0 false
+  unfolding onward passed decode
+  onward-start = let e : productionCount l - 0 ≡ productionCount l = omega arith in rw e
+
+  pub onward-end : (p : ℕ) (seen : Bool) → productionCount l ≤ p → onward p seen ≡ cond seen Passed.Prefix Passed.No
+  unfolding onward run passes
+  onward-end p seen h = let e : productionCount l - p ≡ 0 = omega arith in rw e
+
+  onward-step : (p : ℕ) (seen : Bool) → p < productionCount l
+      → onward p seen ≡ passNext (followed map limit xs (productionAt l p)) p (onward (p + 1) seen) (onward (p + 1) true)
+  unfolding onward run passes
+  onward-step p seen h = let e : productionCount l - p ≡ suc (productionCount l - (p + 1)) = omega arith in rw (e, add-one)
+
+  -- the walk that the code makes for production p
+  pub production-walk : (p : ℕ)
+      → followed map limit xs (productionAt l p)
+      ≡ walked map limit none none (expanded (run (eventAt l) (eventsFrom l p) (productionEvents l p))) xs
+  unfolding followed sequence productionAt
+  production-walk p = refl
+
+  pub onward-no : (p : ℕ) (seen : Bool) (r : Followed) → p < productionCount l → r ≡ followed map limit xs (productionAt l p)
+      → r ≡ Followed.No → onward p seen ≡ onward (p + 1) seen
+  onward-no p seen r h e q =
+      onward-step p seen h ∙ ap (λ (s : Followed). passNext s p (onward (p + 1) seen) (onward (p + 1) true)) (sym e ∙ q)
+
+  pub onward-prefix : (p : ℕ) (seen : Bool) (r : Followed) → p < productionCount l → r ≡ followed map limit xs (productionAt l p)
+      → r ≡ Followed.Prefix → onward p seen ≡ onward (p + 1) true
+  onward-prefix p seen r h e q =
+      onward-step p seen h ∙ ap (λ (s : Followed). passNext s p (onward (p + 1) seen) (onward (p + 1) true)) (sym e ∙ q)
+
+  pub onward-whole : (p : ℕ) (seen : Bool) (r : Followed) → p < productionCount l → r ≡ followed map limit xs (productionAt l p)
+      → r ≡ Followed.Whole → onward p seen ≡ Passed.Chosen p
+  onward-whole p seen r h e q =
+      onward-step p seen h ∙ ap (λ (s : Followed). passNext s p (onward (p + 1) seen) (onward (p + 1) true)) (sym e ∙ q)
+
+pub next-events : (l : List ℕ) (p : ℕ) → eventsFrom l (p + 1) ≡ eventsFrom l p + productionEvents l p
+unfolding eventsFrom productionEvents
+next-events l p = total-more (wordAt l) productionEventsAt p
+
+pub first-events : (l : List ℕ) → eventsFrom l 0 ≡ 0
+unfolding eventsFrom total
+first-events l = refl
+
+-- where the pass stands: at production p, whose events begin at `at`
+module _ (map : List ℕ) (limit : ℕ) (l : List ℕ) (xs : List Event) where
+  pub record Passing (seen : Bool) (at p : ℕ) : Type 0 where
+    pub low : p ≤ productionCount l
+    pub place : at ≡ eventsFrom l p
+    pub comes : passed (decode l) map limit xs ≡ onward map limit l xs p seen
+
+  pub passing-start : Passing false 0 0
+  passing-start = record { low = omega arith; place = sym (first-events l); comes = onward-start map limit l xs }
+
+  module _ (seen : Bool) (at p size : ℕ) (w : Passing seen at p) (h : p < productionCount l) (e : size ≡ productionEvents l p) where
+    abbrev walk : Followed
+    walk = walked map limit none none (expanded (run (eventAt l) at size)) xs
+
+    walk-is : walk ≡ followed map limit xs (productionAt l p)
+    walk-is = rw (w .place, e) (sym (production-walk map limit l xs p))
+
+    placed : at + size ≡ eventsFrom l (p + 1)
+    placed = rw (w .place, e) (sym (next-events l p))
+
+    pub passing-no : (r : Followed) → r ≡ walk → r ≡ Followed.No → Passing seen (at + size) (p + 1)
+    passing-no r q n =
+        record { low = omega arith; place = placed; comes = w .comes ∙ onward-no map limit l xs p seen r h (q ∙ walk-is) n }
+
+    pub passing-prefix : (r : Followed) → r ≡ walk → r ≡ Followed.Prefix → Passing true (at + size) (p + 1)
+    passing-prefix r q n =
+        record { low = omega arith; place = placed; comes = w .comes ∙ onward-prefix map limit l xs p seen r h (q ∙ walk-is) n }
+
+    pub passing-whole : (r : Followed) → r ≡ walk → r ≡ Followed.Whole → passed (decode l) map limit xs ≡ Passed.Chosen p
+    passing-whole r q n = w .comes ∙ onward-whole map limit l xs p seen r h (q ∙ walk-is) n
+
+  pub passing-end : (seen : Bool) (at p : ℕ) → Passing seen at p → productionCount l ≤ p
+      → passed (decode l) map limit xs ≡ cond seen Passed.Prefix Passed.No
+  passing-end seen at p w h = w .comes ∙ onward-end map limit l xs p seen h
+
+-- ---- The smallest start
+
+module _ (t : Table) (map : List ℕ) (limit : ℕ) (events : List Event) (to : ℕ) (long : length events ≡ 25) (room : to ≤ 25) where
+  abbrev R : Reading Event
+  R = readingOf t map limit
+
+  -- the stretch from a start on
+  abbrev pub onFrom : ℕ → List Event
+  onFrom at = drop at (take to events)
+
+  on-cons : (at : ℕ) → at < to → onFrom at ≡ getD events at zeroEvent ∷ onFrom (at + 1)
+  on-cons at h = rw add-one (slice-cons at to events zeroEvent h (omega arith))
+
+  pub start-no : (at : ℕ) (r : Passed) → at < to → r ≡ passed t map limit (onFrom at) → r ≡ Passed.No
+      → longestEnd R (onFrom at) ≡ longestEnd R (onFrom (at + 1))
+  start-no at r h e q =
+      longest-no R (onFrom at) (sym (passed-prefix t map limit (onFrom at)) ∙ ap someReads (sym e ∙ q)) (on-cons at h)
+
+  pub start-yes : (at : ℕ) (r : Passed) → at < to → r ≡ passed t map limit (onFrom at) → someReads r ≡ true
+      → onFrom at ≡ longestEnd R (onFrom at)
+  start-yes at r h e q =
+      sym (longest-yes R (onFrom at) (sym (passed-prefix t map limit (onFrom at)) ∙ ap someReads (sym e) ∙ q))
+
+  -- a stretch that is not empty
+  pub start-in : (at : ℕ) → at < to → passed t map limit (onFrom at) ≡ passedIn t map limit (onFrom at)
+  start-in at h = rw (on-cons at h)
+
+  on-end : onFrom to ≡ []
+  on-end = slice-empty to events
+
+  pub start-end : (at : ℕ) → at ≡ to → onFrom at ≡ longestEnd R (onFrom at)
+  unfolding longestEnd
+  start-end at e = rw (e, on-end)
+
+  pub start-none : (at : ℕ) → at ≡ to → Passed.No ≡ passedIn t map limit (onFrom at)
+  start-none at e = rw (e, on-end)

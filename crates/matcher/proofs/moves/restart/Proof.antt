@@ -1,0 +1,46 @@
+-- `matcher::moves::restart` meets its contract.
+use mathlib.Core.Path.{_≡_, _∙_}
+use denote.Ref.{now}
+use lib.ListN.{length}
+use Rattle.tables.specs.Reading.{decode}
+use Rattle.matcher.proofs.MoveLaws.{restart-is}
+use borrow.Author.Needs.{needs}
+use Rattle.matcher.proofs.moves.restart.Statement.{statement}
+use Rattle.matcher.proofs.moves.restart.Tie as tie
+
+used-up-requires : tie.Need-used-up-requires
+used-up-requires c κs = search needs
+
+first-start-requires : tie.Need-first-start-requires
+first-start-requires c κs = search needs
+
+shifted-requires : tie.Need-shifted-requires
+shifted-requires c κs = search needs
+
+sub-answered : tie.Need-sub-answered
+sub-answered c = search needs
+
+answered-requires : tie.Need-answered-requires
+answered-requires c κs = search needs
+
+returns : tie.Need-returns
+returns c =
+    let a = c .before .before .before .before .before .before .args in
+    let p = c .before .before .before .before .before .before .pre in
+    let s = c .before .before .first-start in
+    let u = c .before .before .before .used-up in
+    let l : length (a .events) ≡ 25 = c .before .before .before .before .before .before .good .1 .1 .1 .0 .1 .0 .1 in
+    c .answered .ensures
+    ∙ restart-is (decode (now (a .table))) (now (a .map)) (a .limit) (a .events) (a .to) (a .selected) (u .result) (s .result .at) (s .result .found) (c .before .shifted .result)
+    l (p .0 .room) (s .ensures .0) (u .ensures) (s .ensures .1) (s .ensures .2) (c .before .shifted .ensures)
+
+pub restart-spec : {M : Type 1} → statement M
+restart-spec =
+    tie.close
+    (tie.spec
+    used-up-requires
+    first-start-requires
+    shifted-requires
+    sub-answered
+    answered-requires
+    returns)

@@ -1,0 +1,4 @@
+pub mod State
+pub mod Walk
+pub mod Moves
+pub mod Match

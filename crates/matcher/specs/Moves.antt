@@ -1,0 +1,45 @@
+-- What a pass comes to: the answer, and the state that stands for the context.
+use Prim.Native.Nat.{ℕ, max}
+use mathlib.Core.Bool.{not}
+use mathlib.Core.List.{List}
+use lib.Dec.{eqb}
+use lib.ListN.{length, drop}
+use Rattle.model.specs.Tables.{Table}
+use Rattle.model.specs.Matching.{readingOf}
+use Rattle.model.specs.declared.events.Event.{Event}
+use Rattle.model.specs.declared.answers.Matched.{Matched}
+use Rattle.machine.specs.Kept.{longestEnd}
+use Rattle.matcher.specs.declared.Answer.{Answer}
+use Rattle.matcher.specs.declared.walk.Passed.{Passed}
+use Rattle.matcher.specs.State.{inSlots}
+use Rattle.matcher.specs.Walk.{passedIn}
+
+abbrev pub matchedBy : Passed → Matched
+matchedBy Passed.No = Matched.Heard
+matchedBy Passed.Prefix = Matched.Heard
+matchedBy (Passed.Chosen p) = Matched.Selected p
+
+-- at a selection every event of the context is used up
+abbrev pub markBy : Passed → (kept selected : ℕ) → ℕ
+markBy Passed.No kept selected = selected
+markBy Passed.Prefix kept selected = selected
+markBy (Passed.Chosen p) kept selected = kept
+
+unfoldable pub answerWith : Passed → (kept selected : ℕ) → List Event → Answer
+answerWith found kept selected slots =
+    record {
+      matched = matchedBy found;
+      state = record { kept = kept; selected = markBy found kept selected; «open» = not (eqb kept 0); events = slots };
+    }
+
+-- the answer of a context of these events
+unfoldable pub answerIn : Passed → List Event → ℕ → Answer
+answerIn found xs selected = answerWith found (length xs) selected (inSlots xs)
+
+-- the context moves on to the longest end past what is used up that reads as a prefix
+unfoldable pub restarted : Table → List ℕ → ℕ → List Event → ℕ → Answer
+restarted t map limit xs selected =
+    answerIn
+    (passedIn t map limit (longestEnd (readingOf t map limit) (drop (max 1 selected) xs)))
+    (longestEnd (readingOf t map limit) (drop (max 1 selected) xs))
+    0

@@ -1,0 +1,109 @@
+-- How a stretch of events is walked along the elements of a production, and what one pass over the productions finds.
+-- proofs/WalkLaws shows that this comes to model's `readsAsPrefix` and `isWholeSequence`.
+use Prim.Native.Nat.{ℕ, suc, _+_, _-_, _*_, _%_, _≤_, _<_}
+use mathlib.Core.Path.{_≡_}
+use mathlib.Core.Bool.{Bool, true, false, cond, not, _&&_, _||_}
+use mathlib.Core.List.{List, [], _∷_}
+use mathlib.Core.Option.{Option, none, some}
+use lib.Dec.{eqb, leb, ltb}
+use lib.ListN.{length, getD}
+use Rattle.words.specs.Words.{wordAt}
+use Rattle.model.specs.Keyboard.{firstKeysym, secondKeysym}
+use Rattle.model.specs.Modifiers.{stateMeets}
+use Rattle.model.specs.Tables.{Production, Table}
+use Rattle.model.specs.Counts.{Element, element, sequence, quick}
+use Rattle.model.specs.Matching.{detailMet, fits}
+use Rattle.model.specs.declared.events.Event.{Event}
+use Rattle.model.specs.declared.events.KeptEvent.{KeptEvent}
+use Rattle.counts.specs.Elements.{elementCount, elementCode, isTimed}
+use Rattle.keyboard.specs.Pairs.{pairAsked}
+use Rattle.tables.specs.Layout.{flagsAt, lowsAt, highsAt}
+use Rattle.tables.specs.Reading.{eventAt}
+use Rattle.tables.specs.Whole.{whole}
+use Rattle.records.specs.Ranges.{EventRanges}
+use Rattle.matcher.specs.declared.walk.Followed.{Followed}
+use Rattle.matcher.specs.declared.walk.Passed.{Passed}
+use Rattle.matcher.specs.State.{zeroEvent}
+
+-- ---- One event
+
+-- modifiers and detail
+unfoldable pub eventMeets : List ℕ → KeptEvent → Event → Bool
+eventMeets map e x = stateMeets (e .set) (e .clear) (e .clause) (x .state) && detailMet map e (e .detail) x
+
+-- the same of a given detail, by the numbers that a table holds
+unfoldable pub detailAsked : List ℕ → (set clear : ℕ) (colon : Bool) (value : ℕ) → Event → Bool
+detailAsked map set clear colon value x =
+    cond (leb (x .code) 3)
+    (pairAsked set clear colon (firstKeysym map (x .detail)) (secondKeysym map (x .detail)) (x .state) value)
+    (eqb (x .detail) value)
+
+-- words of event i
+unfoldable pub flagsIn : List ℕ → ℕ → ℕ
+flagsIn l i = wordAt l (flagsAt + i)
+
+unfoldable pub valueIn : List ℕ → ℕ → ℕ
+valueIn l i = wordAt l (lowsAt + i) + 65536 * wordAt l (highsAt + i)
+
+-- element k of an event
+unfoldable pub elementOf : KeptEvent → ℕ → Element
+elementOf e k = element (elementCode (e .code) (e .count) k) (isTimed (e .code) (e .count) k) e
+
+-- the element fits an event, where `before` is the time of the event two before it in the stretch
+unfoldable pub fitsAfter : List ℕ → ℕ → ℕ → Element → Event → Bool
+fitsAfter map limit before el x =
+    eqb (el .code) (x .code) && eventMeets map (el .event) x && (not (el .timed) || quick limit before (x .time))
+
+-- ---- One production
+
+-- what the walk comes to; the events two and one before the stretch are given
+unfoldable pub walked : List ℕ → ℕ → Option Event → Option Event → List Element → List Event → Followed
+walked map limit twoBefore oneBefore [] [] = Followed.Whole
+walked map limit twoBefore oneBefore (el ∷ els) [] = Followed.Prefix
+walked map limit twoBefore oneBefore [] (x ∷ xs) = Followed.No
+walked map limit twoBefore oneBefore (el ∷ els) (x ∷ xs) =
+    cond (fits map limit twoBefore el x) (walked map limit oneBefore (some x) els xs) Followed.No
+
+unfoldable pub followed : List ℕ → ℕ → List Event → Production → Followed
+followed map limit xs p = walked map limit none none (sequence p) xs
+
+-- how many elements event i has
+unfoldable pub sizeIn : List ℕ → ℕ → ℕ
+sizeIn l i = elementCount (eventAt l i .code) (eventAt l i .count)
+
+-- what the walk may rely on: a whole table, a keyboard map of the right length, and events as they are read, in their slots
+pub record Ready (l map : List ℕ) (slots : List Event) (to : ℕ) : Type 0 where
+  pub isWhole : whole l ≡ true
+  pub mapped : length map ≡ 496
+  pub room : to ≤ 25
+  pub ranges : (j : ℕ) → j < to → EventRanges (getD slots j zeroEvent)
+
+-- ---- One pass over the productions
+
+abbrev pub passNext : Followed → ℕ → Passed → Passed → Passed
+passNext Followed.No i unseen seen = unseen
+passNext Followed.Prefix i unseen seen = seen
+passNext Followed.Whole i unseen seen = Passed.Chosen i
+
+-- the earliest whole one, or whether any reads as a prefix; the first of the list has the place i, and `seen` says whether
+-- one before it did
+unfoldable pub passes : (Production → Followed) → ℕ → Bool → List Production → Passed
+passes f i seen [] = cond seen Passed.Prefix Passed.No
+passes f i seen (p ∷ ps) = passNext (f p) i (passes f (suc i) seen ps) (passes f (suc i) true ps)
+
+unfoldable pub passed : Table → List ℕ → ℕ → List Event → Passed
+passed t map limit xs = passes (followed map limit xs) 0 false (t .productions)
+
+-- no context is open where there are no events
+abbrev pub passedIn : Table → List ℕ → ℕ → List Event → Passed
+passedIn t map limit [] = Passed.No
+passedIn t map limit (x ∷ xs) = passed t map limit (x ∷ xs)
+
+-- ---- The types of events that a table has
+
+-- a press and its release stand for each other where either is counted
+abbrev pub otherCode : ℕ → ℕ
+otherCode own = own + 1 - 2 * (own % 2)
+
+unfoldable pub eventHas : (own count code : ℕ) → Bool
+eventHas own count code = eqb own code || (ltb 1 count && eqb (otherCode own) code)

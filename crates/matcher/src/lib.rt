@@ -1,0 +1,99 @@
+// The matcher: at each record that is heard, the production that it completes, and the state for the next.
+ghost use mathlib.Core.Path.{_≡_};
+ghost use mathlib.Core.Bool.{false, not};
+ghost use Rattle.model.specs.Numbers.{matchOrder, recordNumber};
+ghost use Rattle.tables.specs.Whole.{whole};
+ghost use Rattle.matcher.specs.State.{wholeState};
+ghost use Rattle.matcher.specs.Match.{tooShort, refusedWith, matchAnswer};
+
+mod moves;
+mod reader;
+pub mod state;
+mod walk;
+
+use crate::state::State;
+use model::answers::Matched;
+use model::answers::RecordRead;
+
+// What a call answers, and the state for the next call.
+pub struct Answer {
+    pub matched: Matched,
+    pub state: State,
+}
+
+// How many numbers a keyboard map has.
+const MAP_LENGTH: usize = 496;
+
+// The numbers that refuse a call whatever its record.
+const SHORT_BUFFER: u8 = 1;
+
+const TABLE_NOT_WHOLE: u8 = 12;
+
+const STATE_NOT_WHOLE: u8 = 14;
+
+// The first of them that applies, 0 where none does.
+fn refusal(table: &[u8], map: &[u32], state: State) -> u8
+    ensures { λ r. ⌜ r ≡ matchOrder (tooShort (now (table .entry)) (now (map .entry))) (not (whole (now (table .entry)))) (not (wholeState state)) false false ⌝ }
+{
+    if table.len() < tables::TABLE_LENGTH {
+        return SHORT_BUFFER;
+    }
+    if map.len() != MAP_LENGTH {
+        return SHORT_BUFFER;
+    }
+    if !tables::check::whole(table) {
+        return TABLE_NOT_WHOLE;
+    }
+    if !state::state_whole(state) {
+        return STATE_NOT_WHOLE;
+    }
+    0
+}
+
+// A refused call keeps the state.
+fn refused(number: u8, old: State) -> Answer
+    ensures { λ r. ⌜ r ≡ refusedWith number old ⌝ }
+{
+    Answer {
+        matched: Matched::Refused(number),
+        state: old,
+    }
+}
+
+// The number that a record is refused with.
+fn number_of(read: RecordRead) -> u8
+    ensures { λ r. ⌜ r ≡ recordNumber read ⌝ }
+{
+    match read {
+        RecordRead::Event(_) => 0,
+        RecordRead::Refused(n) => n,
+    }
+}
+
+// One call. 15 is never given: no stretch of more than 24 events reads as a prefix of a whole table.
+pub fn match_event(
+    table: &[u8],
+    map: &[u32],
+    limit: u32,
+    state: State,
+    record: &[u8],
+    order: u8,
+) -> Answer
+    ensures { λ r. ⌜ r ≡ matchAnswer (now (table .entry)) (now (map .entry)) limit state (now («record» .entry)) order ⌝ }
+{
+    let number = refusal(table, map, state);
+    if number != 0 {
+        return refused(number, state);
+    }
+    let read = records::read_record(record, order);
+    let RecordRead::Event(x) = read else {
+        return refused(number_of(read), state);
+    };
+    if !walk::has_type(table, x.code) {
+        return Answer {
+            matched: Matched::Dropped,
+            state,
+        };
+    }
+    moves::heard(table, map, limit, state, x)
+}

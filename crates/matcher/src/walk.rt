@@ -1,0 +1,283 @@
+// Events against the elements of productions.
+ghost use mathlib.Core.Path.{_≡_};
+ghost use mathlib.Core.Bool.{true};
+ghost use mathlib.Core.Option.{none};
+ghost use Prim.Native.Nat.{_+_, _-_, _≤_, _<_};
+ghost use lib.ListN.{length, take, drop};
+ghost use Rattle.records.specs.Ranges.{EventRanges};
+ghost use Rattle.tables.specs.Reading.{eventCount, eventAt, decode};
+ghost use Rattle.tables.specs.Whole.{whole};
+ghost use Rattle.words.specs.Runs.{run};
+ghost use Rattle.model.specs.Counts.{expanded};
+ghost use Rattle.model.specs.Lists.{any};
+ghost use Rattle.model.specs.Matching.{hasType, readingOf};
+ghost use Rattle.machine.specs.Kept.{longestEnd};
+ghost use lib.Dec.{eqb};
+ghost use Rattle.matcher.specs.Walk.{eventMeets, detailAsked, elementOf, fitsAfter, walked, sizeIn, Ready, passed, passedIn, eventHas};
+use crate::reader;
+use model::events::Event;
+
+// How a stretch of events and the sequence of a production compare.
+pub enum Followed {
+    // The stretch does not read as a prefix.
+    No,
+    Prefix,
+    // The stretch is the whole sequence.
+    Whole,
+}
+
+// What one pass over the productions finds of a stretch.
+pub enum Passed {
+    // It reads as a prefix of none.
+    No,
+    // It does of some, and is the whole sequence of none.
+    Prefix,
+    // The earliest production whose whole sequence it is.
+    Chosen(usize),
+}
+
+// Where the stretch begins that reads as a prefix, and what the pass found of it.
+pub struct Start {
+    pub at: usize,
+    pub found: Passed,
+}
+
+// Whether an event has the detail that is asked for: of a key, the keysym under the keyboard map.
+fn detail_met(map: &[u32], set: u16, clear: u16, colon: bool, value: u32, x: Event) -> bool
+    requires { ⌜ (length (now map) ≡ 496) × EventRanges x ⌝ }
+    ensures { λ r. ⌜ r ≡ detailAsked (now (map .entry)) set clear colon value x ⌝ }
+{
+    if x.code <= 3 {
+        let pair = keyboard::pair_at(map, x.detail);
+        return keyboard::pair_matches(set, clear, colon, pair.first, pair.second, x.state, value);
+    }
+    x.detail as u32 == value
+}
+
+// Whether an event meets the test and the detail of event i of a table.
+fn event_meets(table: &[u8], map: &[u32], i: usize, x: Event) -> bool
+    requires { ⌜ ((whole (now table) ≡ true) × (i < eventCount (now table))) × ((length (now map) ≡ 496) × EventRanges x) ⌝ }
+    ensures { λ r. ⌜ r ≡ eventMeets (now (map .entry)) (eventAt (now (table .entry)) i) x ⌝ }
+{
+    let set = reader::set_at(table, i);
+    let clear = reader::clear_at(table, i);
+    let flags = reader::flags_at(table, i);
+    if !modifiers::state_meets(set, clear, reader::is_flag(2, flags), x.state) {
+        return false;
+    }
+    if !reader::is_flag(4, flags) {
+        return true;
+    }
+    detail_met(
+        map,
+        set,
+        clear,
+        reader::is_flag(1, flags),
+        reader::value_at(table, i),
+        x,
+    )
+}
+
+// Whether event x fits element k of event i of a table. `before` is the time of the event two before it.
+fn element_fits(
+    table: &[u8],
+    map: &[u32],
+    limit: u32,
+    i: usize,
+    k: usize,
+    before: u32,
+    x: Event,
+) -> bool
+    requires { ⌜ ((whole (now table) ≡ true) × (i < eventCount (now table))) × ((length (now map) ≡ 496) × EventRanges x) ⌝ }
+    ensures { λ r. ⌜ r ≡ fitsAfter (now (map .entry)) limit before (elementOf (eventAt (now (table .entry)) i) k) x ⌝ }
+{
+    let code = reader::code_at(table, i);
+    let count = reader::count_at(table, i);
+    if counts::element_code(code, count, k) != x.code {
+        return false;
+    }
+    if !event_meets(table, map, i, x) {
+        return false;
+    }
+    if !counts::is_timed(code, count, k) {
+        return true;
+    }
+    counts::quick(limit, before, x.time)
+}
+
+// How many elements event i of a table has.
+fn size_at(table: &[u8], i: usize) -> usize
+    requires { ⌜ (whole (now table) ≡ true) × (i < eventCount (now table)) ⌝ }
+    ensures { λ r. ⌜ r ≡ sizeIn (now (table .entry)) i ⌝ }
+{
+    let code = reader::code_at(table, i);
+    let count = reader::count_at(table, i);
+    counts::element_count(code, count)
+}
+
+// The place of the event two before the one at j, which an element k of a counted event may ask for from k = 2 on.
+fn two_before(j: usize, k: usize) -> usize
+    requires { ⌜ k ≤ j ⌝ }
+    ensures { λ r. ⌜ (r ≤ j) × (2 ≤ k → r ≡ j - 2) ⌝ }
+{
+    if k < 2 {
+        return j;
+    }
+    j - 2
+}
+
+// Events from..to against the elements of n events of a table. Most productions are ruled out by the first code.
+fn follow(
+    table: &[u8],
+    map: &[u32],
+    limit: u32,
+    first: usize,
+    n: usize,
+    events: [Event; 25],
+    from: usize,
+    to: usize,
+) -> Followed
+    requires { ⌜ Ready (now table) (now map) events to × (from ≤ to) × (first + n ≤ eventCount (now table)) ⌝ }
+    ensures { λ r. ⌜ r ≡ walked (now (map .entry)) limit none none (expanded (run (eventAt (now (table .entry))) first n)) (drop from (take to events)) ⌝ }
+{
+    let last = first + n;
+    let mut i = first;
+    let mut k: usize = 0;
+    let mut j = from;
+    while j < to {
+        if last <= i {
+            return Followed::No;
+        }
+        let x = events[j];
+        let at = two_before(j, k);
+        let b = events[at];
+        if !element_fits(table, map, limit, i, k, b.time, x) {
+            return Followed::No;
+        }
+        j += 1;
+        k += 1;
+        if k == size_at(table, i) {
+            k = 0;
+            i += 1;
+        }
+    }
+    if i < last {
+        Followed::Prefix
+    } else {
+        Followed::Whole
+    }
+}
+
+// The first element of event i has this code.
+fn starts(table: &[u8], i: usize, code: u8) -> bool
+    requires { ⌜ (whole (now table) ≡ true) × (i < eventCount (now table)) ⌝ }
+    ensures { λ r. ⌜ r ≡ eqb (elementOf (eventAt (now (table .entry)) i) 0 .code) code ⌝ }
+{
+    let own = reader::code_at(table, i);
+    let count = reader::count_at(table, i);
+    counts::element_code(own, count, 0) == code
+}
+
+// Events from..to against every production, in order. A production whose first code is another is passed over at once.
+pub fn pass(
+    table: &[u8],
+    map: &[u32],
+    limit: u32,
+    events: [Event; 25],
+    from: usize,
+    to: usize,
+) -> Passed
+    requires { ⌜ Ready (now table) (now map) events to × (from < to) ⌝ }
+    ensures { λ r. ⌜ r ≡ passed (decode (now (table .entry))) (now (map .entry)) limit (drop from (take to events)) ⌝ }
+{
+    let n = tables::read::production_count(table);
+    let e = events[from];
+    let code = e.code;
+    let mut seen = false;
+    let mut at: usize = 0;
+    let mut p: usize = 0;
+    while p < n {
+        let size = tables::read::production_events(table, p);
+        if starts(table, at, code) {
+            match follow(table, map, limit, at, size, events, from, to) {
+                Followed::Whole => {
+                    return Passed::Chosen(p);
+                }
+                Followed::Prefix => {
+                    seen = true;
+                    at += size;
+                    p += 1;
+                }
+                Followed::No => {
+                    at += size;
+                    p += 1;
+                }
+            }
+        } else {
+            at += size;
+            p += 1;
+        }
+    }
+    if seen { Passed::Prefix } else { Passed::No }
+}
+
+// The smallest start from `from` on at which the events up to `to` read as a prefix, or `to`.
+pub fn first_start(
+    table: &[u8],
+    map: &[u32],
+    limit: u32,
+    events: [Event; 25],
+    from: usize,
+    to: usize,
+) -> Start
+    requires { ⌜ Ready (now table) (now map) events to × (from ≤ to) ⌝ }
+    ensures { λ r. ⌜ (r .at ≤ to) × (drop (r .at) (take to events) ≡ longestEnd (readingOf (decode (now (table .entry))) (now (map .entry)) limit) (drop from (take to events))) × (r .found ≡ passedIn (decode (now (table .entry))) (now (map .entry)) limit (drop (r .at) (take to events))) ⌝ }
+{
+    let mut at = from;
+    while at < to {
+        match pass(table, map, limit, events, at, to) {
+            Passed::No => {
+                at += 1;
+            }
+            Passed::Prefix => {
+                return Start {
+                    at,
+                    found: Passed::Prefix,
+                };
+            }
+            Passed::Chosen(p) => {
+                return Start {
+                    at,
+                    found: Passed::Chosen(p),
+                };
+            }
+        }
+    }
+    Start {
+        at,
+        found: Passed::No,
+    }
+}
+
+// Whether an event of this code and count stands for one of another code.
+fn event_has(own: u8, count: u8, code: u8) -> bool
+    requires { ⌜ own ≤ 34 ⌝ }
+    ensures { λ r. ⌜ r ≡ eventHas own count code ⌝ }
+{
+    (own == code) | ((1 < count) & (own + 1 - 2 * (own % 2) == code))
+}
+
+// Whether some production has an event of this type. No early exit, so that the loop is compiled to vector instructions.
+pub fn has_type(table: &[u8], code: u8) -> bool
+    requires { ⌜ whole (now table) ≡ true ⌝ }
+    ensures { λ r. ⌜ r ≡ any (hasType code) (decode (now (table .entry)) .productions) ⌝ }
+{
+    let n = tables::read::event_count(table);
+    let mut hit = false;
+    let mut i: usize = 0;
+    while i < n {
+        hit = hit | event_has(reader::code_at(table, i), reader::count_at(table, i), code);
+        i += 1;
+    }
+    hit
+}
