@@ -1,0 +1,51 @@
+-- `calls::call_count` meets its contract.
+use borrow.Author.Needs.{needs}
+use native.Mathlib.Omega.{arith}
+use mathlib.Core.Path.{_≡_, sym, _∙_}
+use Rattle.tables.proofs.Theorems.{whole-length}
+use Rattle.calls.specs.Refusals.{tableRefusal}
+use Rattle.calls.proofs.Orders.{table-whole, count-refused}
+use Rattle.calls.proofs.Asked.{productions-below}
+use Rattle.calls.proofs.Answered.{calls-answer, calls-absent}
+use Rattle.calls.proofs.call_count.Statement.{statement}
+use Rattle.calls.proofs.call_count.Tie as tie
+
+table-refusal-requires : tie.Need-table-refusal-requires
+table-refusal-requires c κs = search needs
+
+returns : tie.Need-returns
+returns c = count-refused (c .before .before .before .args .table .now) _ (c .before .table-refusal .result) (c .before .table-refusal .ensures) (λ e. omega arith)
+
+production-count-requires : tie.Need-production-count-requires
+production-count-requires c κs =
+    let z : tableRefusal (c .before .before .before .args .table .now) ≡ 0 = sym (c .before .table-refusal .ensures) ∙ omega arith in
+    whole-length (c .before .before .before .args .table .now) (table-whole (c .before .before .before .args .table .now) z)
+
+returns-2 : tie.Need-returns-2
+returns-2 c =
+    let z : tableRefusal (c .before .before .before .before .before .args .table .now) ≡ 0 = sym (c .before .before .before .table-refusal .ensures) ∙ omega arith in
+    let e = c .before .production-count .ensures in
+    calls-absent (c .before .before .before .before .before .args .table .now) z (c .before .before .before .before .before .args .production) (omega arith)
+
+production-calls-requires : tie.Need-production-calls-requires
+production-calls-requires c κs =
+    let z : tableRefusal (c .before .before .before .before .before .args .table .now) ≡ 0 = sym (c .before .before .before .table-refusal .ensures) ∙ omega arith in
+    let e = c .before .production-count .ensures in
+    (whole-length (c .before .before .before .before .before .args .table .now) (table-whole (c .before .before .before .before .before .args .table .now) z), omega (arith, productions-below (c .before .before .before .before .before .args .table .now) (table-whole (c .before .before .before .before .before .args .table .now) z)))
+
+returns-3 : tie.Need-returns-3
+returns-3 c =
+    let z : tableRefusal (c .before .before .before .before .before .before .args .table .now) ≡ 0 = sym (c .before .before .before .before .table-refusal .ensures) ∙ omega arith in
+    let e = c .before .before .production-count .ensures in
+    rw (c .production-calls .ensures) (calls-answer (c .before .before .before .before .before .before .args .table .now) z (c .before .before .before .before .before .before .args .production) (omega arith))
+
+pub call-count-spec : {M : Type 1} → statement M
+call-count-spec =
+    tie.close
+    (tie.spec
+    table-refusal-requires
+    returns
+    production-count-requires
+    returns-2
+    production-calls-requires
+    returns-3)

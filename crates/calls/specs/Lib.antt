@@ -1,0 +1,6 @@
+pub mod Refusals
+pub mod Places
+pub mod Answers
+pub mod Parts
+pub mod ReadOut
+pub mod Examples

@@ -1,0 +1,8 @@
+pub mod EventWalk
+pub mod EventHere
+pub mod CallWalk
+pub mod Appended
+pub mod AddedLine
+pub mod LineSteps
+pub mod Run
+pub mod Outcomes

@@ -1,0 +1,137 @@
+-- One line: what the code's answers are in the model's terms.
+use Prim.Native.Nat.{ℕ, _+_, _≤_}
+use native.Mathlib.Omega.{arith}
+use mathlib.Core.Path.{_≡_, refl, sym, ap, _∙_, subst}
+use mathlib.Core.Bool.{Bool, true, false, cond}
+use mathlib.Core.List.{List, [], _∷_, _++_}
+use mathlib.Core.Option.{Option, none, some}
+use lib.Dec.{eqb}
+use lib.ListN.{length, length-append}
+use borrow.Author.Tests.{eq-eqb, ne-eqb}
+use Rattle.model.specs.Lists.{part}
+use Rattle.model.specs.Lines.{lineEnd, lineAt, isBlankLine, directiveOf, directiveAt}
+use Rattle.model.specs.Compiling.{passesLimit, LineOutcome, add, lineOutcome}
+use Rattle.model.specs.Tables.{Production}
+use Rattle.model.specs.declared.scan.Class.{Class}
+use Rattle.model.specs.declared.events.Directive.{Directive}
+use Rattle.scanner.proofs.Runs.{run-from, run-in}
+use Rattle.lines.specs.declared.totals.Totals.{Totals}
+use Rattle.lines.specs.declared.totals.Line.{Line}
+use Rattle.lines.specs.declared.line.LineJudged.{LineJudged}
+use Rattle.lines.specs.Totals.{totalsOf, lineOf, withLine, TotalsIn}
+use Rattle.lines.specs.Line.{callsStart, judgedOf}
+use Rattle.lines.proofs.Sums.{totals-more, totals-in}
+use Rattle.tables.specs.Layout.{image}
+use Rattle.tables.proofs.Images.{length-image}
+use Rattle.compiler.specs.Puts.{putLine}
+use Rattle.compiler.specs.Reads.{LineFits}
+use Rattle.compiler.specs.Held.{soFar, held}
+use Rattle.compiler.specs.Progress.{Underway, done, doneWith, heldWith, plainDone, plainHeld}
+use Rattle.compiler.specs.declared.line.LineDone.{LineDone}
+use Rattle.compiler.proofs.AddedLine.{LineAdds, line-adds, line-fits, line-held, so-far-room}
+
+-- ---- Where a line lies
+
+pub line-part : (text : List ℕ) (at end : ℕ) → end ≡ lineEnd text at → part text at end ≡ lineAt text at
+unfolding lineAt
+line-part text at end e = ap (part text at) e
+
+pub line-from : (text : List ℕ) (at : ℕ) → at ≤ lineEnd text at
+unfolding lineEnd
+line-from text at = run-from Class.Line text at
+
+pub line-in : (text : List ℕ) (at : ℕ) → at ≤ length text → lineEnd text at ≤ length text
+unfolding lineEnd
+line-in text at h = run-in Class.Line text at h
+
+-- only the line at byte 0 is a directive
+pub directive-first : (text : List ℕ) (at : ℕ) → at ≡ 0 → directiveAt text at ≡ directiveOf (lineAt text at)
+unfolding directiveAt
+directive-first text at e = rw (eq-eqb at 0 e) (ap (λ (n : ℕ). directiveOf (lineAt text n)) (sym e))
+
+pub directive-later : (text : List ℕ) (at : ℕ) → (at ≡ 0 → ⊥) → directiveAt text at ≡ none
+unfolding directiveAt
+directive-later text at e = rw (ne-eqb at 0 e)
+
+-- ---- What a line that is no directive comes to
+
+module _ (d : Directive) (ps : List Production) (rest : List ℕ) (base : ℕ) (l : List ℕ) where
+  pub plain-blank : isBlankLine l ≡ true → (done d ps ≡ plainDone d ps base l) × (held ps rest ≡ plainHeld ps rest base l)
+  unfolding plainDone plainHeld
+  plain-blank e = (rw e, rw e)
+
+  outcome-is : (o : LineOutcome) → isBlankLine l ≡ false → lineOutcome ps base l ≡ o
+      → (doneWith d ps o ≡ plainDone d ps base l) × (heldWith ps rest o ≡ plainHeld ps rest base l)
+  unfolding plainDone plainHeld
+  outcome-is o e q = (rw (e, q), rw (e, q))
+
+  pub plain-refused : (n : ℕ) → isBlankLine l ≡ false → lineOutcome ps base l ≡ LineOutcome.refuse n
+      → (LineDone.Refused n ≡ plainDone d ps base l) × (held ps rest ≡ plainHeld ps rest base l)
+  plain-refused n e q = outcome-is (LineOutcome.refuse n) e q
+
+  pub plain-added : (p : Production) → isBlankLine l ≡ false → lineOutcome ps base l ≡ add p
+      → (done d (ps ++ (p ∷ [])) ≡ plainDone d ps base l) × (held (ps ++ (p ∷ [])) rest ≡ plainHeld ps rest base l)
+  plain-added p e q = outcome-is (add p) e q
+
+-- ---- The bytes so far
+
+pub held-length : (ps : List Production) (rest : List ℕ) → passesLimit ps ≡ false → length (held ps rest) ≡ 5904 + length rest
+unfolding held
+held-length ps rest h =
+    omega (arith, length-append (image (soFar ps)) rest, length-image (soFar ps) (so-far-room ps h))
+
+module _ (t : Totals) (out : List ℕ) (u : Underway t out) where
+  pub underway-length : length out ≡ 5904 + length (u .rest)
+  underway-length = ap length (u .bytes) ∙ held-length (u .ps) (u .rest) (u .kept)
+
+  pub underway-in : TotalsIn t
+  underway-in = subst TotalsIn (sym (u .totals)) (totals-in (u .ps) (u .kept))
+
+  -- ---- A line that is judged
+
+  pub outcome-refused : (n right base : ℕ) (l : List ℕ) → LineJudged.Refuse n ≡ judgedOf right (lineOutcome (u .ps) base l)
+      → lineOutcome (u .ps) base l ≡ LineOutcome.refuse n
+  outcome-refused n right base l e = go (lineOutcome (u .ps) base l) e
+    where
+      go : (o : LineOutcome) → LineJudged.Refuse n ≡ judgedOf right o → o ≡ LineOutcome.refuse n
+      go (add p) e = let z : _≡_ {A = ℕ} 0 1 = cc in absurd (omega arith)
+      go (LineOutcome.refuse m) e = cc
+
+  pub record Adds (base : ℕ) (l : List ℕ) (line : Line) : Type 0 where
+    pub p : Production
+    pub outcome : lineOutcome (u .ps) base l ≡ add p
+    pub is : line ≡ lineOf (callsStart l) p
+
+  pub outcome-added : (base : ℕ) (l : List ℕ) (line : Line)
+      → LineJudged.Add line ≡ judgedOf (callsStart l) (lineOutcome (u .ps) base l) → Adds base l line
+  outcome-added base l line e = go (lineOutcome (u .ps) base l) refl e
+    where
+      go : (o : LineOutcome) → lineOutcome (u .ps) base l ≡ o → LineJudged.Add line ≡ judgedOf (callsStart l) o → Adds base l line
+      go (add p) q e = record { p = p; outcome = q; is = cc }
+      go (LineOutcome.refuse m) q e = let z : _≡_ {A = ℕ} 0 1 = cc in absurd (omega arith)
+
+  module _ (base : ℕ) (l : List ℕ) (line : Line) (a : Adds base l line) where
+    adds : LineAdds (u .ps) base l (a .p)
+    adds = line-adds (u .ps) base l (a .p) (a .outcome)
+
+    pub added-fits : LineFits l t line
+    added-fits =
+        subst (λ (s : Totals). LineFits l s line) (sym (u .totals))
+        (subst (LineFits l (totalsOf (u .ps))) (sym (a .is)) (line-fits (u .ps) base l (a .p) adds))
+
+    pub added-totals : withLine t line ≡ totalsOf (u .ps ++ (a .p ∷ []))
+    added-totals =
+        ap (λ (s : Totals). withLine s line) (u .totals)
+        ∙ ap (withLine (totalsOf (u .ps))) (a .is)
+        ∙ sym (totals-more (u .ps) (a .p) (callsStart l))
+
+    pub added-in : TotalsIn (withLine t line)
+    added-in = subst TotalsIn (sym added-totals) (totals-in (u .ps ++ (a .p ∷ [])) (adds .passes))
+
+    pub added-held : (new : List ℕ) → new ≡ putLine base l t line out → new ≡ held (u .ps ++ (a .p ∷ [])) (u .rest)
+    added-held new e =
+        e
+        ∙ ap (putLine base l t line) (u .bytes)
+        ∙ ap (λ (s : Totals). putLine base l s line (held (u .ps) (u .rest))) (u .totals)
+        ∙ ap (λ (n : Line). putLine base l (totalsOf (u .ps)) n (held (u .ps) (u .rest))) (a .is)
+        ∙ line-held (u .ps) base l (a .p) adds (u .rest) (u .kept)

@@ -1,0 +1,65 @@
+use borrow.Author.Needs.{needs}
+use Prim.Native.Nat.{ℕ, _+_, _≤_}
+use native.Mathlib.Omega.{arith}
+use mathlib.Core.Path.{_≡_, refl, sym, ap, _∙_, subst}
+use mathlib.Core.List.{List, map}
+use lib.ListN.{length}
+use Rattle.model.specs.Calls.{Parameters, parametersFrom, parametersAt}
+use Rattle.model.specs.Compiling.{inText}
+use Rattle.scanner.specs.declared.sides.ParametersOpen.{ParametersOpen}
+use Rattle.scanner.specs.Sides.{openAt}
+use Rattle.scanner.proofs.Right.{opened, opened-is, OpenIn, open-in}
+use Rattle.compiler.specs.Puts.{putParameters}
+use Rattle.compiler.specs.Reads.{ParametersFit, spansIn}
+use Rattle.compiler.proofs.CallWalk.{put-no-parameter}
+use Rattle.compiler.proofs.calls.write_bracket.Statement.{statement}
+use Rattle.compiler.proofs.calls.write_bracket.Tie as tie
+
+-- the parameters that stand there, at the value that a match found
+opened-told : (l : List ℕ) (at : ℕ) {r s : ParametersOpen} → r ≡ openAt l at → r ≡ s → parametersAt l at ≡ opened l s
+opened-told l at p q = sym (opened-is l at) ∙ ap (opened l) (sym p ∙ q)
+
+open-parameters-requires : tie.Need-open-parameters-requires
+open-parameters-requires c κs = search needs
+
+enum-told : tie.Need-enum-told
+enum-told c = search needs
+
+enum-known-start : tie.Need-enum-known-start
+enum-known-start c = search needs
+
+write-parameters-requires : tie.Need-write-parameters-requires
+write-parameters-requires c κs =
+    let s = c .before .before .before .before .before .before .before in
+    let e = opened-told (s .args .l .now) (s .args .at) (c .before .before .before .before .open-parameters .ensures) (c .before .before .start .given .1) in
+    let i = subst (OpenIn (length (s .args .l .now)) (s .args .at)) (sym (c .before .before .before .before .open-parameters .ensures) ∙ c .before .before .start .given .1) (open-in (s .args .l .now) (s .args .at) (s .pre .0 .0)) in
+    ((i .1, s .pre .0 .1), (s .pre .1 .0, subst (λ (r : Parameters). ParametersFit r (s .args .first)) e (s .pre .1 .1)))
+
+returns : tie.Need-returns
+returns c =
+    let a = c .before .before .before .before .before .args in
+    let e = opened-told (a .l .now) (a .at) (c .before .before .open-parameters .ensures) (c .enum-told .given .1) in
+    sym (ap (λ (r : Parameters). putParameters (a .out .now) (a .first) (map (inText (a .base)) (spansIn r))) e
+    ∙ put-no-parameter (a .out .now) (a .first))
+
+same-length : tie.Need-same-length
+same-length c = search needs
+
+returns-2 : tie.Need-returns-2
+returns-2 c =
+    let a = c .before .before .before .before .before .before .before .before .before .before .args in
+    let e = opened-told (a .l .now) (a .at) (c .before .before .before .before .before .before .before .open-parameters .ensures) (c .before .before .before .before .before .start .given .1) in
+    c .before .before .write-parameters .ensures
+    ∙ ap (λ (r : Parameters). putParameters (a .out .now) (a .first) (map (inText (a .base)) (spansIn r))) (sym e)
+
+pub write-bracket-spec : {M : Type 1} → statement M
+write-bracket-spec =
+    tie.close
+    (tie.spec
+    open-parameters-requires
+    enum-told
+    enum-known-start
+    write-parameters-requires
+    returns
+    same-length
+    returns-2)

@@ -1,0 +1,131 @@
+use borrow.Author.Needs.{needs}
+use native.Mathlib.Omega.{arith}
+use Prim.Native.Nat.{ℕ, _+_, _-_, _≤_}
+use mathlib.Core.Path.{_≡_, refl, sym, ap, _∙_, subst}
+use mathlib.Core.List.{List, _++_}
+use lib.ListN.{length, drop}
+use Rattle.model.specs.Lines.{lineEnd}
+use Rattle.model.specs.Compiling.{Outcome, refused, linesOf, outcomeAnswer}
+use Rattle.compiler.specs.declared.line.LineDone.{LineDone}
+use Rattle.compiler.proofs.LineSteps.{line-from, line-in}
+use Rattle.compiler.proofs.Run.{Going, Kept, going-start, underway, AfterLine, Next, after-line, next-kept, next-totals, next-going, next-last, refused-bytes, accepted-bytes}
+use Rattle.compiler.proofs.text.compile_lines.Statement.{statement}
+use Rattle.compiler.proofs.text.compile_lines.Tie as tie
+
+abbrev Inv-loop : tie.InvT-loop
+Inv-loop text out₀ s₀ at₀ out s at = Going text out₀ out s at × (length out ≡ length out₀)
+
+abbrev μ-loop : tie.MeasureT-loop
+μ-loop text out₀ s₀ at₀ out s at = length text + 1 - at
+
+clear-requires : tie.Need-clear-requires Inv-loop μ-loop
+clear-requires c κs = search needs
+
+no-totals-requires : tie.Need-no-totals-requires Inv-loop μ-loop
+no-totals-requires c κs = search needs
+
+loop-holds : tie.Need-loop-holds Inv-loop μ-loop
+loop-holds c =
+    let a = c .before .before .before .before .before .before .before .args in
+    (going-start (a .text .now) (a .out .now) (c .before .before .before .clear .last .0) (c .no-totals .result) (c .before .before .before .clear .ensures) (c .no-totals .ensures), refl)
+
+line-end-requires : tie.Need-line-end-requires Inv-loop μ-loop
+line-end-requires c κs = search needs
+
+do-line-requires : tie.Need-do-line-requires Inv-loop μ-loop
+do-line-requires c κs =
+    let x = c .before .before .loop in
+    let g = x .inv .0 in
+    ((g .inside, c .before .before .before .before .before .before .before .before .before .before .pre .1, c .before .line-end .ensures), underway _ _ _ _ _ g)
+
+-- what a line came to
+came : (c : tie.After-do-line Inv-loop μ-loop) (r : LineDone) → c .do-line .result ≡ r
+    → AfterLine (c .before .before .before .before .before .before .before .before .before .before .before .args .text .now) (c .before .before .before .before .before .before .before .clear .last .0) (c .do-line .last .1 .1 .1 .0) (c .before .before .before .loop .at) r
+came c r q =
+    let x = c .before .before .before .loop in
+    let g = x .inv .0 in
+    let e = c .do-line .ensures (underway (c .before .before .before .before .before .before .before .before .before .before .before .args .text .now) (c .before .before .before .before .before .before .before .clear .last .0) (x .out) (x .s) (x .at) g) in
+    after-line (c .before .before .before .before .before .before .before .before .before .before .before .args .text .now) (c .before .before .before .before .before .before .before .clear .last .0) (x .out) (x .s) (x .at) g (c .do-line .last .1 .1 .1 .0) (c .do-line .result) r (e .0) (e .1) q
+
+enum-known-number : tie.Need-enum-known-number Inv-loop μ-loop
+enum-known-number c = search needs
+
+refuse-requires : tie.Need-refuse-requires Inv-loop μ-loop
+refuse-requires c κs =
+    let k = came (c .before .before .before .before .before .before) (LineDone.Refused (c .before .before .number .given .0 .0)) (c .before .before .number .given .1) in
+    omega (arith, k .1 .long)
+
+same-length : tie.Need-same-length Inv-loop μ-loop
+same-length c =
+    c .before .before .refuse .kept .0 ∙ c .before .before .before .before .before .before .before .before .before .do-line .kept .1 .1 .1 .0 ∙ c .before .before .before .before .before .before .before .before .before .before .before .before .loop .inv .1 ∙ c .before .before .before .before .before .before .before .before .before .before .before .before .before .before .before .before .clear .kept .0
+
+returns : tie.Need-returns Inv-loop μ-loop
+returns c =
+    let a = c .before .before .before .before .before .before .before .before .before .before .before .before .before .before .before .before .before .before .before .before .args in
+    let n = c .before .before .before .before .before .number .given .0 .0 in
+    let k = came (c .before .before .before .before .before .before .before .before .before) (LineDone.Refused n) (c .before .before .before .before .before .number .given .1) in (
+      c .before .before .refuse .ensures .0 ∙ ap outcomeAnswer (sym (k .0)),
+      refused-bytes (a .text .now) (a .out .now) (c .before .before .before .before .before .before .before .before .before .before .before .before .before .before .before .before .clear .last .0) (c .before .before .before .before .before .before .before .before .before .before .before .before .before .before .before .before .clear .ensures) (c .before .before .before .before .before .before .before .before .before .do-line .last .1 .1 .1 .0) (c .before .before .refuse .last .0) n (c .before .before .before .before .before .before .before .before .before .before .before .before .loop .at) (k .0) (k .1) (c .before .before .refuse .ensures .1),
+    )
+
+enum-known-next : tie.Need-enum-known-next Inv-loop μ-loop
+enum-known-next c = search needs
+
+write-header-requires : tie.Need-write-header-requires Inv-loop μ-loop
+write-header-requires c κs =
+    let x = came (c .before .before .before .before .before .before .before) (LineDone.Done (c .before .before .before .next .given .0 .0)) (c .before .before .before .next .given .1) in
+    let k = next-kept _ _ _ _ _ x in
+    ((omega (arith, k .long), c .before .before .before .before .before .before .before .before .before .before .before .before .before .before .before .before .before .before .pre .1), next-totals _ _ _ _ _ x)
+
+same-length-2 : tie.Need-same-length-2 Inv-loop μ-loop
+same-length-2 c =
+    c .before .before .write-header .kept .0 ∙ c .before .before .before .before .before .before .before .before .before .before .do-line .kept .1 .1 .1 .0 ∙ c .before .before .before .before .before .before .before .before .before .before .before .before .before .loop .inv .1 ∙ c .before .before .before .before .before .before .before .before .before .before .before .before .before .before .before .before .before .clear .kept .0
+
+returns-2 : tie.Need-returns-2 Inv-loop μ-loop
+returns-2 c =
+    let a = c .before .before .before .before .before .before .before .before .before .before .before .before .before .before .before .before .before .before .before .before .before .args in
+    let s = c .before .before .before .before .before .before .next .given .0 .0 in
+    let x = came (c .before .before .before .before .before .before .before .before .before .before) (LineDone.Done s) (c .before .before .before .before .before .before .next .given .1) in
+    let e = next-last _ _ _ _ _ x (c .before .before .before .before .before .before .before .before .before .before .before .before .line-end .result) (c .before .before .before .before .before .before .before .before .before .before .before .before .line-end .ensures) (c .before .before .before .before .if1 .taken) in (
+      ap outcomeAnswer (sym e),
+      accepted-bytes (a .text .now) (a .out .now) (c .before .before .before .before .before .before .before .before .before .before .before .before .before .before .before .before .before .clear .last .0) (c .before .before .before .before .before .before .before .before .before .before .before .before .before .before .before .before .before .clear .ensures) (c .before .before .before .before .before .before .before .before .before .before .do-line .last .1 .1 .1 .0) (c .before .before .write-header .last .0) s (c .before .before .before .before .before .before .before .before .before .before .before .before .before .loop .at) x e (c .before .before .write-header .ensures),
+    )
+
+add-at : tie.Need-add-at Inv-loop μ-loop
+add-at c = search needs
+
+loop-less : tie.Need-loop-less Inv-loop μ-loop
+loop-less c =
+    let at = c .before .before .before .before .before .before .before .before .before .loop .at in
+    let text = c .before .before .before .before .before .before .before .before .before .before .before .before .before .before .before .before .before .args .text .now in
+    omega (arith, c .before .before .before .before .before .before .before .before .line-end .ensures, line-from text at, c .if1 .left)
+
+loop-again : tie.Need-loop-again Inv-loop μ-loop
+loop-again c =
+    let x = came (c .before .before .before .before .before .before) (LineDone.Done (c .before .before .next .given .0 .0)) (c .before .before .next .given .1) in (
+      next-going _ _ _ _ _ x (c .before .before .before .before .before .before .before .before .line-end .result) (c .before .before .before .before .before .before .before .before .line-end .ensures) (c .if1 .left),
+      c .before .before .before .before .before .before .do-line .kept .1 .1 .1 .0 ∙ c .before .before .before .before .before .before .before .before .before .loop .inv .1,
+    )
+
+pub compile-lines-spec : {M : Type 1} → statement M
+compile-lines-spec =
+    tie.close
+    (tie.spec
+    Inv-loop
+    μ-loop
+    clear-requires
+    no-totals-requires
+    loop-holds
+    line-end-requires
+    do-line-requires
+    enum-known-number
+    refuse-requires
+    same-length
+    returns
+    enum-known-next
+    write-header-requires
+    same-length-2
+    returns-2
+    add-at
+    loop-less
+    loop-again)

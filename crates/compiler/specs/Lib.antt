@@ -1,0 +1,6 @@
+pub mod Puts
+pub mod Reads
+pub mod Held
+pub mod Progress
+pub mod Compile
+pub mod Theorems

@@ -1,0 +1,37 @@
+// The compiler: from text to a table in lent memory. Each line is judged whole before anything of it is written.
+pub mod calls;
+pub mod events;
+pub mod line;
+pub mod text;
+
+use crate::text::compile_lines;
+use crate::text::refuse;
+use model::answers::Compiled;
+use scanner::lines::BadByte;
+use scanner::lines::first_bad_byte;
+ghost use mathlib.Core.Path.{_≡_};
+ghost use lib.Dec.{ltb};
+ghost use lib.ListN.{length};
+ghost use Rattle.model.specs.Compiling.{compileOutcome, outcomeAnswer};
+ghost use Rattle.tables.specs.Layout.{tableLength};
+ghost use Rattle.compiler.specs.Compile.{compiledBytes};
+
+// Compiles a text into a table, the first `tables::TABLE_LENGTH` bytes of the buffer.
+pub fn compile(text: &[u8], table: &mut [u8]) -> Compiled
+    ensures { λ r. ⌜ (r ≡ outcomeAnswer (compileOutcome (ltb (length (now (table .entry))) tableLength) (now (text .entry))))
+        × (now (table .exit) ≡ compiledBytes (now (text .entry)) (now (table .entry))) ⌝ }
+{
+    if table.len() < tables::TABLE_LENGTH {
+        return Compiled::Refused {
+            number: 1,
+            place: 0,
+        };
+    }
+    if 8192 < text.len() {
+        return refuse(table, 2, 0);
+    }
+    match first_bad_byte(text) {
+        BadByte::At(place) => refuse(table, 3, place),
+        BadByte::Absent => compile_lines(text, table),
+    }
+}

@@ -1,0 +1,54 @@
+-- Texts and their canonical texts, document 01's whole example first.
+use Prim.Native.Nat.{ℕ}
+use Prim.Native.String.{String}
+use mathlib.Core.Bool.{Bool, _&&_}
+use mathlib.Core.List.{List, [], _∷_}
+use Rattle.model.specs.Lists.{bytes, same, all}
+use Rattle.model.specs.Compiling.{Outcome, accepted, refused, compiled}
+use Rattle.model.specs.Canonical.{canonicalText}
+
+-- the canonical text of what a text compiles to, no bytes where it is refused
+abbrev pub writtenFrom : List ℕ → Outcome → List ℕ
+writtenFrom text (accepted t) = canonicalText text [] t
+writtenFrom text (refused number place) = []
+
+abbrev pub canonical : List ℕ → List ℕ
+canonical text = writtenFrom text (compiled text)
+
+pub record Example : Type 0 where
+  pub text : String
+  pub canonical : String
+
+abbrev pub gives : String → String → Example
+gives text canonical = record { text = text; canonical = canonical }
+
+unfoldable pub examples : List Example
+examples =
+    gives "#override\ns c<Key>a : go(now,) stop()\n<Btn1Up>(2): ok()"
+    "Ctrl Shift<KeyPress>0x61:go(\"now\",\"\") stop()\n<ButtonRelease>(2)Button1:ok()\n"
+    -- no directive, no blank line, a newline at the end of every line
+    ∷ gives "\n \n<Expose>:" "<Expose>:\n"
+    ∷ gives "" ""
+    -- `!` wherever every testable bit is asked, then only set bits
+    ∷ gives "None<Key>:" "!<KeyPress>:\n"
+    ∷ gives "! : Mod1 Ctrl<Key>A:" "!:Ctrl Mod1<KeyPress>0x41:\n"
+    ∷ gives "! c ~s<Key>a:" "!Ctrl<KeyPress>0x61:\n"
+    ∷ gives "~ Shift ~Lock c<Key>a:" "Ctrl ~Shift ~Lock<KeyPress>0x61:\n"
+    -- a key sequence, and an escaped quote
+    ∷ gives "\"^a\\\"\":" "Ctrl<KeyPress>0x61,<KeyPress>0x22:\n"
+    -- names of types and details
+    ∷ gives "<Btn2Down>,<Enter>1,<Motion>7,<Mapping>Pointer:" "<ButtonPress>Button2,<EnterNotify>Grab,<MotionNotify>7,<MappingNotify>Pointer:\n"
+    ∷ gives "<BtnMotion>Hint:" "<BtnMotion>Hint:\n"
+    ∷ gives "Button1<BtnMotion>:" "Button1<MotionNotify>:\n"
+    ∷ gives "<Btn3Motion>:" "Button3<MotionNotify>:\n"
+    ∷ gives "<Key>(1)F12,<Key>0x1FFFFFFF:" "<KeyPress>0xffc9,<KeyPress>0x1fffffff:\n"
+    -- parameters are quoted, and hold what they held
+    ∷ gives "<Key>:f( , )g(a(b,\" x, y\\\")" "<KeyPress>:f(\"\",\"\") g(\"a(b\",\" x, y\\\")\n"
+    ∷ []
+
+-- the text comes to its canonical one, and that to itself
+abbrev pub comesTo : Example → Bool
+comesTo e = same (canonical (bytes (e .text))) (bytes (e .canonical)) && same (canonical (bytes (e .canonical))) (bytes (e .canonical))
+
+abbrev pub allCome : Bool
+allCome = all comesTo examples

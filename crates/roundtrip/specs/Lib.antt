@@ -1,0 +1,3 @@
+pub mod Contents
+pub mod RoundTrip
+pub mod Examples
