@@ -1,5 +1,5 @@
 -- A line that adds a production: it fits what is left of the table, and once it is written the bytes hold the production.
-use Prim.Native.Nat.{ℕ, suc, _+_, _≤_, _<_}
+use Prim.Native.Nat.{ℕ, _+_, _≤_, _<_}
 use native.Mathlib.Omega.{arith}
 use mathlib.Core.Path.{_≡_, refl, sym, ap, _∙_, subst}
 use mathlib.Core.Bool.{Bool, true, false, cond}
@@ -14,18 +14,15 @@ use Rattle.model.specs.Tables.{Call, Production}
 use Rattle.model.specs.declared.events.KeptEvent.{KeptEvent}
 use Rattle.scanner.specs.Spans.{eventsIn}
 use Rattle.scanner.specs.Sides.{parametersOf, leftOf, callsIn}
-use Rattle.scanner.specs.declared.sides.LeftRead.{LeftRead}
 use Rattle.scanner.proofs.Left.{LeftIn, left-in}
-use Rattle.lines.specs.declared.totals.Totals.{Totals}
-use Rattle.lines.specs.declared.totals.Line.{Line}
 use Rattle.lines.specs.Totals.{totalsOf, lineOf}
 use Rattle.lines.specs.Line.{startOf, callsStart}
 use Rattle.tables.specs.Layout as layout
 use Rattle.tables.specs.Layout.{Entries, eventsOf, callsOf, image}
-use Rattle.tables.specs.Writing.{putProduction, withProduction}
-use Rattle.tables.proofs.Lists.{flat-append, length-flat, inAll-flat}
+use Rattle.tables.specs.Writing.{putProduction}
+use Rattle.tables.proofs.Lists.{length-flat, inAll-flat}
 use Rattle.tables.proofs.Images.{Room}
-use Rattle.tables.proofs.Facts.{LimitFacts, limit-facts, events-in-all, calls-in-all, parameters-in-all}
+use Rattle.tables.proofs.Facts.{limit-facts, events-in-all, calls-in-all, parameters-in-all}
 use Rattle.tables.proofs.Written as written
 use Rattle.compiler.specs.Puts.{putWritten, putCalls, putLine}
 use Rattle.compiler.specs.Reads.{EventsFit, CallsFit, LineFits}

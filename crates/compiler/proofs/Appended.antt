@@ -2,9 +2,8 @@
 use Prim.Native.Nat.{ℕ, suc, _+_, _≤_, _<_}
 use native.Mathlib.Omega.{arith}
 use mathlib.Core.Path.{_≡_, refl, sym, ap, _∙_}
-use mathlib.Core.List.{List, [], _∷_, _++_, map, append-nil, append-assoc, map-append}
-use lib.ListN.{length, length-append, length-map}
-use Rattle.model.specs.Lists.{inAll}
+use mathlib.Core.List.{List, [], _∷_, _++_, append-nil, append-assoc, map-append}
+use lib.ListN.{length, length-append}
 use Rattle.model.specs.Events.{WrittenEvent}
 use Rattle.model.specs.Judging.{judged}
 use Rattle.model.specs.Compiling.{EventsJudged, keep, keepOneMore, judgedNext, judgedAll}
@@ -12,13 +11,13 @@ use Rattle.model.specs.Tables.{Call, Production}
 use Rattle.model.specs.declared.scan.Span.{Span}
 use Rattle.model.specs.declared.events.KeptEvent.{KeptEvent}
 use Rattle.model.specs.declared.answers.Judged.{Judged}
-use Rattle.tables.specs.Layout.{Entries, flat, eventsOf, callsOf, parametersOf, image}
-use Rattle.tables.specs.Writing.{putEvent, putCall, putParameter, putProduction, withEvent, withCall, withParameter, withProduction}
-use Rattle.tables.proofs.Lists.{flat-append, length-flat}
+use Rattle.tables.specs.Layout.{Entries, flat, callsOf, parametersOf, image}
+use Rattle.tables.specs.Writing.{putEvent, putCall, putParameter, withEvent, withCall, withParameter, withProduction}
+use Rattle.tables.proofs.Lists.{flat-append}
 use Rattle.tables.proofs.Images.{Room}
 use Rattle.tables.proofs.Written as written
 use Rattle.compiler.specs.Puts.{putJudged, putWritten, putParameters, putWhole, putCalls}
-use Rattle.compiler.specs.Held.{soFar, held}
+use Rattle.compiler.specs.Held.{soFar}
 
 -- ---- Entries with more of them
 

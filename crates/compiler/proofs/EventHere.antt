@@ -1,14 +1,14 @@
 -- What is read at a position of a line, an event or a key sequence: what writing it needs, and comes to.
-use Prim.Native.Nat.{ℕ, suc, _+_, _≤_, _<_}
+use Prim.Native.Nat.{ℕ, _+_, _≤_, _<_}
 use native.Mathlib.Omega.{arith}
 use mathlib.Core.Path.{_≡_, refl, sym, ap, _∙_, subst}
 use mathlib.Core.List.{List, [], _∷_}
 use lib.ListN.{length}
-use Rattle.model.specs.Events.{WrittenEvent, event, EventsRead, events, keysFrom, eventsAt}
+use Rattle.model.specs.Events.{event, EventsRead, events, keysFrom, eventsAt}
 use Rattle.model.specs.Judging.{judged, judgedWritten}
 use Rattle.scanner.specs.declared.events.EventSpans.{EventSpans}
 use Rattle.scanner.specs.declared.events.EventRead.{EventRead}
-use Rattle.scanner.specs.Spans.{spansAt, eventsIn, readOf, keyed}
+use Rattle.scanner.specs.Spans.{spansAt, eventsIn, readOf}
 use Rattle.scanner.proofs.EventRanges.{EventIn, spans-in}
 use Rattle.scanner.proofs.Walks.{Stands, spans-stand, keyed-good}
 use Rattle.judge.specs.Spans.{writtenIn, SpansIn}

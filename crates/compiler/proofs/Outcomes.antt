@@ -1,14 +1,13 @@
 -- The checks 1, 2 and 3, and what an accepted text gives.
 use Prim.Native.Nat.{ℕ, _≤_, _<_}
-use native.Mathlib.Omega.{arith}
 use mathlib.Core.Path.{_≡_, refl, sym, ap, _∙_}
-use mathlib.Core.Bool.{Bool, true, false, cond}
+use mathlib.Core.Bool.{Bool, cond}
 use mathlib.Core.List.{List, [], _++_}
 use mathlib.Core.Option.{Option, none, some}
 use lib.Dec.{ltb}
 use lib.ListN.{length, drop}
 use borrow.Author.Tests.{le-ltb, lt-ltb}
-use Rattle.words.specs.Words.{zeros, cleared}
+use Rattle.words.specs.Words.{cleared}
 use Rattle.model.specs.Numbers.{shortBuffer, longText, badByte}
 use Rattle.model.specs.Bytes.{firstBadByte, runEnd, skip}
 use Rattle.model.specs.Lines.{lineEnd, lineAt, isBlankLine, directiveOf, directiveAt}

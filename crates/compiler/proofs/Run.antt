@@ -6,20 +6,19 @@ use mathlib.Core.Bool.{Bool, true, false, cond}
 use mathlib.Core.List.{List, [], _∷_, _++_}
 use mathlib.Core.Option.{Option, none, some}
 use lib.Dec.{leb}
-use lib.ListN.{length, drop, length-append, length-drop}
+use lib.ListN.{length, drop}
 use lib.Seq.{drop-at}
 use borrow.Author.Tests.{le-leb, lt-leb}
 use Rattle.words.specs.Words.{zeros, cleared}
-use Rattle.words.proofs.Laws.{length-zeros}
 use Rattle.model.specs.Lines.{lineEnd, lineAt, isBlankLine, directiveAt}
-use Rattle.model.specs.Compiling.{passesLimit, totalsPass, LineOutcome, add, lineOutcome, Outcome, accepted, refused, tableOf, goOn, afterLine, afterDirective, linesFrom, linesOf, outcomeAnswer}
+use Rattle.model.specs.Compiling.{passesLimit, totalsPass, LineOutcome, add, lineOutcome, Outcome, accepted, refused, tableOf, goOn, afterLine, afterDirective, linesFrom, linesOf}
 use Rattle.model.specs.Tables.{Production}
 use Rattle.model.specs.declared.events.Directive.{Directive}
 use Rattle.lines.specs.Totals.{totalsOf, TotalsIn}
 use Rattle.lines.specs.declared.totals.Totals.{Totals}
 use Rattle.lines.proofs.Sums.{totals-in}
-use Rattle.tables.specs.Layout.{tableLength, directiveWord, flag, flat, headerOf, entriesOf, image, encode, eventsOf, callsOf, parametersOf}
-use Rattle.tables.specs.Writing.{withHeader, putTexts, putCounts}
+use Rattle.tables.specs.Layout.{tableLength, directiveWord, flag, flat, headerOf, entriesOf, image, encode}
+use Rattle.tables.specs.Writing.{withHeader}
 use Rattle.tables.proofs.Images.{length-image}
 use Rattle.tables.proofs.Written as written
 use Rattle.compiler.specs.Puts.{putHeader}
@@ -28,7 +27,7 @@ use Rattle.compiler.specs.Progress.{Underway, done, doneWith, heldWith, 
 use Rattle.compiler.specs.Compile.{imageOf}
 use Rattle.compiler.specs.declared.line.LineDone.{LineDone}
 use Rattle.compiler.specs.declared.line.Progress.{Progress}
-use Rattle.compiler.proofs.AddedLine.{LineAdds, line-adds, so-far-room, totals-are}
+use Rattle.compiler.proofs.AddedLine.{line-adds, so-far-room, totals-are}
 use Rattle.compiler.proofs.LineSteps.{held-length, line-from}
 
 -- where the loop stands: some productions are done, and fuel f suffices for the rest

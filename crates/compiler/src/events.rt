@@ -14,7 +14,7 @@ ghost use mathlib.Core.Path.{_≡_};
 ghost use Prim.Native.Nat.{_+_, _≤_, _<_};
 ghost use lib.ListN.{length};
 ghost use Rattle.model.specs.Events.{keysFrom, eventsAt, leftSide};
-ghost use Rattle.model.specs.Judging.{judgedWritten, judgedMark};
+ghost use Rattle.model.specs.Judging.{judgedWritten};
 ghost use Rattle.scanner.specs.Spans.{eventsIn};
 ghost use Rattle.judge.specs.Spans.{writtenIn, SpansIn};
 ghost use Rattle.compiler.specs.Puts.{putJudged, putWritten};

@@ -9,6 +9,7 @@ use crate::text::refuse;
 use model::answers::Compiled;
 use scanner::lines::BadByte;
 use scanner::lines::first_bad_byte;
+use tables::TABLE_LENGTH;
 ghost use mathlib.Core.Path.{_≡_};
 ghost use lib.Dec.{ltb};
 ghost use lib.ListN.{length};
@@ -16,12 +17,12 @@ ghost use Rattle.model.specs.Compiling.{compileOutcome, outcomeAnswer};
 ghost use Rattle.tables.specs.Layout.{tableLength};
 ghost use Rattle.compiler.specs.Compile.{compiledBytes};
 
-// Compiles a text into a table, the first `tables::TABLE_LENGTH` bytes of the buffer.
+// Compiles a text into a table, the first `TABLE_LENGTH` bytes of the buffer.
 pub fn compile(text: &[u8], table: &mut [u8]) -> Compiled
     ensures { λ r. ⌜ (r ≡ outcomeAnswer (compileOutcome (ltb (length (now (table .entry))) tableLength) (now (text .entry))))
         × (now (table .exit) ≡ compiledBytes (now (text .entry)) (now (table .entry))) ⌝ }
 {
-    if table.len() < tables::TABLE_LENGTH {
+    if table.len() < TABLE_LENGTH {
         return Compiled::Refused {
             number: 1,
             place: 0,

@@ -6,7 +6,7 @@ use lines::totals::no_totals;
 use model::answers::Compiled;
 use model::events::Directive;
 use scanner::lines::line_end;
-use tables::write::clear;
+use tables::TABLE_LENGTH;
 use tables::write::put_counts;
 use tables::write::put_texts;
 ghost use mathlib.Core.Path.{_≡_};
@@ -22,11 +22,11 @@ ghost use Rattle.compiler.specs.Puts.{putHeader};
 ghost use Rattle.compiler.specs.Compile.{imageOf};
 
 // A refusal leaves the empty table.
-pub fn refuse(out: &mut [u8], number: u8, place: usize) -> Compiled
-    requires { ⌜ 5904 ≤ length (now out) ⌝ }
-    ensures { λ r. ⌜ (r ≡ Compiled.Refused number place) × (now (out .exit) ≡ cleared tableLength (now (out .entry))) ⌝ }
+pub fn refuse(table: &mut [u8], number: u8, place: usize) -> Compiled
+    requires { ⌜ 5904 ≤ length (now table) ⌝ }
+    ensures { λ r. ⌜ (r ≡ Compiled.Refused number place) × (now (table .exit) ≡ cleared tableLength (now (table .entry))) ⌝ }
 {
-    words::clear(out, 5904);
+    words::clear(table, TABLE_LENGTH);
     Compiled::Refused { number, place }
 }
 
@@ -47,7 +47,7 @@ pub fn compile_lines(text: &[u8], out: &mut [u8]) -> Compiled
     ensures { λ r. ⌜ (r ≡ outcomeAnswer (linesOf (now (text .entry))))
         × (now (out .exit) ≡ imageOf (linesOf (now (text .entry))) ++ drop tableLength (now (out .entry))) ⌝ }
 {
-    clear(out);
+    words::clear(out, TABLE_LENGTH);
     let totals = no_totals();
     let mut s = Progress {
         directive: Directive::Replace,

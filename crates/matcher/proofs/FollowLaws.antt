@@ -240,13 +240,20 @@ module _ (map : List ℕ) (limit : ℕ) (l : List ℕ) (first n : ℕ) (events :
         let e : j ≡ to = omega arith in
         w .comes ∙ rest-whole map limit l (first + n) events from to i k j h e
 
-  -- the first code is another
-  pub walks-other : length events ≡ 25 → to ≤ 25 → from < to → 1 ≤ n
-      → eqb (elementOf (eventAt l first) 0 .code) (getD events from zeroEvent .code) ≡ false → target ≡ Followed.No
-  walks-other h room m o q =
+  -- the first event does not fit the first element
+  pub walks-other : length events ≡ 25 → to ≤ 25 → from < to → 1 ≤ n → (r : Bool)
+      → r ≡ fitsAfter map limit (getD events from zeroEvent .time) (elementOf (eventAt l first) 0) (getD events from zeroEvent)
+      → r ≡ false → target ≡ Followed.No
+  walks-other h room m o r e q =
       let b : from ≤ to = omega arith in
       let d : first < first + n = omega arith in
-      walks-no room first 0 from (walks-start h b) d m 0 (λ z. absurd (omega arith))
-      (fitsAfter map limit (getD events 0 zeroEvent .time) (elementOf (eventAt l first) 0) (getD events from zeroEvent)) refl
-      (fits-other map limit (getD events 0 zeroEvent .time) (eventAt l first) 0 (getD events from zeroEvent)
+      walks-no room first 0 from (walks-start h b) d m from (λ z. absurd (omega arith)) r e q
+
+  -- the first code is another
+  pub walks-another : length events ≡ 25 → to ≤ 25 → from < to → 1 ≤ n
+      → eqb (elementOf (eventAt l first) 0 .code) (getD events from zeroEvent .code) ≡ false → target ≡ Followed.No
+  walks-another h room m o q =
+      walks-other h room m o
+      (fitsAfter map limit (getD events from zeroEvent .time) (elementOf (eventAt l first) 0) (getD events from zeroEvent)) refl
+      (fits-other map limit (getD events from zeroEvent .time) (eventAt l first) 0 (getD events from zeroEvent)
       (eqb-false (elementOf (eventAt l first) 0 .code) (getD events from zeroEvent .code) q))

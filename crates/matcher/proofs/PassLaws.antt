@@ -22,11 +22,12 @@ use Rattle.model.specs.declared.events.Event.{Event}
 use Rattle.machine.specs.Kept.{longestEnd, chosenIn}
 use Rattle.machine.proofs.Track.{longest-yes, longest-no}
 use Rattle.tables.specs.Layout.{productionEventsAt}
-use Rattle.tables.specs.Reading.{productionCount, productionEvents, eventsFrom, eventAt, productionAt, decode}
+use Rattle.tables.specs.Reading.{productionCount, eventCount, productionEvents, eventsFrom, eventAt, productionAt, decode}
 use Rattle.matcher.specs.declared.walk.Followed.{Followed}
 use Rattle.matcher.specs.declared.walk.Passed.{Passed}
 use Rattle.matcher.specs.State.{zeroEvent}
 use Rattle.matcher.specs.Walk.{walked, followed, passNext, passes, passed, passedIn}
+use Rattle.matcher.proofs.TableFacts.{TableFacts}
 
 -- ---- One production
 
@@ -282,3 +283,22 @@ module _ (t : Table) (map : List ℕ) (limit : ℕ) (events : List Event) (to : 
 
   pub start-none : (at : ℕ) → at ≡ to → Passed.No ≡ passedIn t map limit (onFrom at)
   start-none at e = rw (e, on-end)
+
+-- a production's events are among the table's
+pub record Place (l : List ℕ) (at p size : ℕ) : Type 0 where
+  pub there : p < productionCount l
+  pub few : p < 64
+  pub isSize : size ≡ productionEvents l p
+  pub some : 1 ≤ size
+  pub within : at + size ≤ eventCount l
+  pub small : at + size ≤ 256
+
+pub place-of : (l : List ℕ) → TableFacts l → (at p size n : ℕ) → n ≡ productionCount l → p < n → at ≡ eventsFrom l p
+    → size ≡ productionEvents l p → Place l at p size
+place-of l f at p size n c h e s =
+    let t : p < productionCount l = omega arith in
+    let w = f .within p t in
+    let o = f .some p t in
+    let m = f .events in
+    let d = f .productions in
+    record { there = t; few = omega arith; isSize = s; some = omega arith; within = omega arith; small = omega arith }

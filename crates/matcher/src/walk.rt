@@ -3,6 +3,7 @@ ghost use mathlib.Core.Path.{_≡_};
 ghost use mathlib.Core.Bool.{true};
 ghost use mathlib.Core.Option.{none};
 ghost use Prim.Native.Nat.{_+_, _-_, _≤_, _<_};
+ghost use lib.Dec.{eqb};
 ghost use lib.ListN.{length, take, drop};
 ghost use Rattle.records.specs.Ranges.{EventRanges};
 ghost use Rattle.tables.specs.Reading.{eventCount, eventAt, decode};
@@ -12,7 +13,6 @@ ghost use Rattle.model.specs.Counts.{expanded};
 ghost use Rattle.model.specs.Lists.{any};
 ghost use Rattle.model.specs.Matching.{hasType, readingOf};
 ghost use Rattle.machine.specs.Kept.{longestEnd};
-ghost use lib.Dec.{eqb};
 ghost use Rattle.matcher.specs.Walk.{eventMeets, detailAsked, elementOf, fitsAfter, walked, sizeIn, Ready, passed, passedIn, eventHas};
 use crate::reader;
 use model::events::Event;
@@ -178,7 +178,8 @@ fn starts(table: &[u8], i: usize, code: u8) -> bool
     counts::element_code(own, count, 0) == code
 }
 
-// Events from..to against every production, in order. A production whose first code is another is passed over at once.
+// Events from..to against every production, in order. One whose first element the first event does not fit is passed over
+// at once, by its code alone where that is another.
 pub fn pass(
     table: &[u8],
     map: &[u32],
@@ -199,19 +200,24 @@ pub fn pass(
     while p < n {
         let size = tables::read::production_events(table, p);
         if starts(table, at, code) {
-            match follow(table, map, limit, at, size, events, from, to) {
-                Followed::Whole => {
-                    return Passed::Chosen(p);
+            if element_fits(table, map, limit, at, 0, e.time, e) {
+                match follow(table, map, limit, at, size, events, from, to) {
+                    Followed::Whole => {
+                        return Passed::Chosen(p);
+                    }
+                    Followed::Prefix => {
+                        seen = true;
+                        at += size;
+                        p += 1;
+                    }
+                    Followed::No => {
+                        at += size;
+                        p += 1;
+                    }
                 }
-                Followed::Prefix => {
-                    seen = true;
-                    at += size;
-                    p += 1;
-                }
-                Followed::No => {
-                    at += size;
-                    p += 1;
-                }
+            } else {
+                at += size;
+                p += 1;
             }
         } else {
             at += size;

@@ -26,14 +26,14 @@ module _ {A : Type 0} where
       those-cond test keep x xs (keep x) refl (and-left (test x) (all test xs) e)
       (all-those test keep xs (and-right (test x) (all test xs) e))
 
-all-map : {A B : Type 0} (test : B → Bool) (f : A → B) (xs : List A) → all (λ x. test (f x)) xs ≡ true → all test (map f xs) ≡ true
+pub all-map : {A B : Type 0} (test : B → Bool) (f : A → B) (xs : List A) → all (λ x. test (f x)) xs ≡ true → all test (map f xs) ≡ true
 all-map test f [] e = refl
 all-map test f (x ∷ xs) e =
     and-both (test (f x)) (all test (map f xs)) (and-left (test (f x)) (all (λ y. test (f y)) xs) e)
     (all-map test f xs (and-right (test (f x)) (all (λ y. test (f y)) xs) e))
 
 -- a test of every element of joined lists, list by list
-flat-all : {A B : Type 0} (test : B → Bool) (f : A → List B) (xs : List A) → all test (flat f xs) ≡ true → all (λ x. all test (f x)) xs ≡ true
+pub flat-all : {A B : Type 0} (test : B → Bool) (f : A → List B) (xs : List A) → all test (flat f xs) ≡ true → all (λ x. all test (f x)) xs ≡ true
 unfolding flat
 flat-all test f [] e = refl
 flat-all test f (x ∷ xs) e =

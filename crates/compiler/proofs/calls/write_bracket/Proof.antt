@@ -1,10 +1,9 @@
 use borrow.Author.Needs.{needs}
-use Prim.Native.Nat.{ℕ, _+_, _≤_}
-use native.Mathlib.Omega.{arith}
-use mathlib.Core.Path.{_≡_, refl, sym, ap, _∙_, subst}
+use Prim.Native.Nat.{ℕ}
+use mathlib.Core.Path.{_≡_, sym, ap, _∙_, subst}
 use mathlib.Core.List.{List, map}
 use lib.ListN.{length}
-use Rattle.model.specs.Calls.{Parameters, parametersFrom, parametersAt}
+use Rattle.model.specs.Calls.{Parameters, parametersAt}
 use Rattle.model.specs.Compiling.{inText}
 use Rattle.scanner.specs.declared.sides.ParametersOpen.{ParametersOpen}
 use Rattle.scanner.specs.Sides.{openAt}

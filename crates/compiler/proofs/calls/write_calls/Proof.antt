@@ -10,7 +10,7 @@ use Rattle.model.specs.Compiling.{inText, callOf}
 use Rattle.scanner.specs.Sides.{callsIn}
 use Rattle.compiler.specs.Puts.{putParameters, putCalls}
 use Rattle.compiler.specs.Reads.{spansIn}
-use Rattle.compiler.proofs.CallWalk.{CallsLeft, CallHere, calls-start, call-told, calls-same}
+use Rattle.compiler.proofs.CallWalk.{CallsLeft, calls-start, call-told, calls-same}
 use Rattle.compiler.proofs.calls.write_calls.Statement.{statement}
 use Rattle.compiler.proofs.calls.write_calls.Tie as tie
 

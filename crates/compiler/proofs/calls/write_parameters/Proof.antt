@@ -1,14 +1,14 @@
 use borrow.Author.Needs.{needs}
 use native.Mathlib.Omega.{arith}
 use Prim.Native.Nat.{_+_, _-_}
-use mathlib.Core.Path.{_≡_, refl, sym, ap, _∙_}
+use mathlib.Core.Path.{_≡_, refl, sym, _∙_}
 use mathlib.Core.List.{map}
 use lib.ListN.{length}
 use Rattle.model.specs.Calls.{parametersFrom}
 use Rattle.model.specs.Compiling.{inText}
 use Rattle.compiler.specs.Puts.{putParameters}
 use Rattle.compiler.specs.Reads.{spansIn}
-use Rattle.compiler.proofs.CallWalk.{ParametersLeft, Writable, parameters-start, parameter-told, parameters-same}
+use Rattle.compiler.proofs.CallWalk.{ParametersLeft, parameters-start, parameter-told, parameters-same}
 use Rattle.compiler.proofs.calls.write_parameters.Statement.{statement}
 use Rattle.compiler.proofs.calls.write_parameters.Tie as tie
 

@@ -1,7 +1,7 @@
 use borrow.Author.Needs.{needs}
 use native.Mathlib.Omega.{arith}
-use mathlib.Core.Path.{_≡_, refl, sym, ap, _∙_}
-use Rattle.compiler.proofs.EventHere.{ReadHere, PlainHere, KeysHere, read-told}
+use mathlib.Core.Path.{sym, _∙_}
+use Rattle.compiler.proofs.EventHere.{read-told}
 use Rattle.compiler.proofs.events.write_event.Statement.{statement}
 use Rattle.compiler.proofs.events.write_event.Tie as tie
 

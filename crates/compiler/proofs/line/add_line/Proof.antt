@@ -1,10 +1,9 @@
 use borrow.Author.Needs.{needs}
 use native.Mathlib.Omega.{arith}
-use mathlib.Core.Path.{_≡_, refl, sym, ap, _∙_}
+use mathlib.Core.Path.{sym, ap, _∙_}
 use Rattle.lines.specs.declared.totals.Totals.{Totals}
-use Rattle.compiler.specs.Progress.{Underway}
 use Rattle.compiler.specs.declared.line.LineDone.{LineDone}
-use Rattle.compiler.proofs.LineSteps.{plain-blank, plain-refused, plain-added, underway-length, underway-in, outcome-refused, Adds, outcome-added, added-fits, added-totals, added-in, added-held}
+use Rattle.compiler.proofs.LineSteps.{plain-blank, plain-refused, plain-added, underway-length, underway-in, outcome-refused, outcome-added, added-fits, added-totals, added-in, added-held}
 use Rattle.compiler.proofs.line.add_line.Statement.{statement}
 use Rattle.compiler.proofs.line.add_line.Tie as tie
 

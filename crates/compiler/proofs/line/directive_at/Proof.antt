@@ -1,8 +1,7 @@
 use borrow.Author.Needs.{needs}
 use native.Mathlib.Omega.{arith}
-use mathlib.Core.Path.{_≡_, refl, sym, ap, _∙_}
-use mathlib.Core.List.{List}
-use Rattle.model.specs.Lines.{lineAt, directiveOf, directiveAt}
+use mathlib.Core.Path.{sym, ap, _∙_}
+use Rattle.model.specs.Lines.{directiveOf}
 use Rattle.compiler.proofs.LineSteps.{line-part, line-from, line-in, directive-first, directive-later}
 use Rattle.compiler.proofs.line.directive_at.Statement.{statement}
 use Rattle.compiler.proofs.line.directive_at.Tie as tie

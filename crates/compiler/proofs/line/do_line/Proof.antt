@@ -1,8 +1,7 @@
 use borrow.Author.Needs.{needs}
 use native.Mathlib.Omega.{arith}
-use Prim.Native.Nat.{ℕ, _-_}
-use mathlib.Core.Path.{_≡_, refl, sym, ap, _∙_}
-use mathlib.Core.List.{List}
+use Prim.Native.Nat.{_-_}
+use mathlib.Core.Path.{_≡_, sym, ap, _∙_}
 use mathlib.Core.Option.{Option, none, some}
 use lib.ListN.{length, take, drop, length-drop}
 use lib.Seq.{length-take-le}
@@ -10,7 +9,7 @@ use Rattle.model.specs.Lines.{lineAt, directiveAt}
 use Rattle.model.specs.declared.events.Directive.{Directive}
 use Rattle.names.specs.Find.{directiveGiven}
 use Rattle.lines.specs.declared.totals.Totals.{Totals}
-use Rattle.compiler.specs.Progress.{Underway, plainDone, plainHeld, lineDone, lineHeld}
+use Rattle.compiler.specs.Progress.{plainDone, plainHeld, lineDone, lineHeld}
 use Rattle.compiler.specs.declared.line.LineDone.{LineDone}
 use Rattle.compiler.proofs.LineSteps.{line-part, line-from, line-in}
 use Rattle.compiler.proofs.line.do_line.Statement.{statement}

@@ -1,14 +1,12 @@
 use borrow.Author.Needs.{needs}
 use native.Mathlib.Omega.{arith}
-use Prim.Native.Nat.{ℕ, _+_, _-_, _≤_}
-use mathlib.Core.Path.{_≡_, refl, sym, ap, _∙_, subst}
-use mathlib.Core.List.{List, _++_}
-use lib.ListN.{length, drop}
-use Rattle.model.specs.Lines.{lineEnd}
-use Rattle.model.specs.Compiling.{Outcome, refused, linesOf, outcomeAnswer}
+use Prim.Native.Nat.{_+_, _-_}
+use mathlib.Core.Path.{_≡_, refl, sym, ap, _∙_}
+use lib.ListN.{length}
+use Rattle.model.specs.Compiling.{outcomeAnswer}
 use Rattle.compiler.specs.declared.line.LineDone.{LineDone}
-use Rattle.compiler.proofs.LineSteps.{line-from, line-in}
-use Rattle.compiler.proofs.Run.{Going, Kept, going-start, underway, AfterLine, Next, after-line, next-kept, next-totals, next-going, next-last, refused-bytes, accepted-bytes}
+use Rattle.compiler.proofs.LineSteps.{line-from}
+use Rattle.compiler.proofs.Run.{Going, going-start, underway, AfterLine, after-line, next-kept, next-totals, next-going, next-last, refused-bytes, accepted-bytes}
 use Rattle.compiler.proofs.text.compile_lines.Statement.{statement}
 use Rattle.compiler.proofs.text.compile_lines.Tie as tie
 

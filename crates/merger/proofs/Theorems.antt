@@ -1,0 +1,79 @@
+-- What an accepted merge gives: a whole table that reads as model's merge of the two tables.
+use Prim.Native.Nat.{ℕ}
+use native.Mathlib.Omega.{arith}
+use mathlib.Core.Path.{_≡_, refl, ap, _∙_}
+use mathlib.Core.Bool.{Bool, true, false, not}
+use mathlib.Core.List.{List, _++_}
+use lib.Dec.{eqb, ltb}
+use lib.ListN.{length, drop}
+use borrow.Author.Tests.{eqb-true}
+use Rattle.model.specs.Numbers.{mergeOrder}
+use Rattle.model.specs.Merging.{mergedTable, mergePassesLimit}
+use Rattle.model.specs.Demand.{Accepted, byMerging}
+use Rattle.model.specs.declared.answers.Merged.{Merged}
+use Rattle.tables.specs.Layout.{encode, tableLength}
+use Rattle.tables.specs.Reading.{decode}
+use Rattle.tables.specs.Whole.{whole}
+use Rattle.merger.specs.Merge.{mergeNumber, answerOf, mergeAnswer, mergedBytes}
+use Rattle.merger.proofs.Answer.{not-no}
+use Rattle.merger.proofs.Result.{result-whole, result-decode}
+
+-- no check applies
+record Clear (a b c d e f g h : Bool) : Type 0 where
+  oldNotWhole : d ≡ false
+  newNotWhole : e ≡ false
+  oldMerged : f ≡ false
+  newMerged : g ≡ false
+  past : h ≡ false
+
+clear-order : (a b c d e f g h : Bool) → mergeOrder a b c d e f g h ≡ 0 → Clear a b c d e f g h
+clear-order true b c d e f g h z = absurd (omega arith)
+clear-order false true c d e f g h z = absurd (omega arith)
+clear-order false false true d e f g h z = absurd (omega arith)
+clear-order false false false true e f g h z = absurd (omega arith)
+clear-order false false false false true f g h z = absurd (omega arith)
+clear-order false false false false false true g h z = absurd (omega arith)
+clear-order false false false false false false true h z = absurd (omega arith)
+clear-order false false false false false false false true z = absurd (omega arith)
+clear-order false false false false false false false false z =
+    record { oldNotWhole = refl; newNotWhole = refl; oldMerged = refl; newMerged = refl; past = refl }
+
+answer-zero : (n : ℕ) → answerOf n ≡ Merged.Accepted → n ≡ 0
+answer-zero n e = go (eqb n 0) refl
+  where
+    go : (t : Bool) → eqb n 0 ≡ t → n ≡ 0
+    go true q = eqb-true n 0 q
+    go false q =
+        let f : Merged.Refused n ≡ Merged.Accepted = rw q at e in
+        let z : _≡_ {A = ℕ} 0 1 = cc in
+        absurd (omega arith)
+
+module _ (old new out : List ℕ) (yes : mergeAnswer old new out ≡ Merged.Accepted) where
+  zero : mergeNumber old new out ≡ 0
+  unfolding mergeAnswer
+  zero = answer-zero (mergeNumber old new out) yes
+
+  clear : Clear (ltb (length old) tableLength) (ltb (length new) tableLength) (ltb (length out) tableLength) (not (whole old)) (not (whole new)) (decode old .merged) (decode new .merged) (mergePassesLimit (decode old) (decode new))
+  unfolding mergeNumber
+  clear =
+      clear-order (ltb (length old) tableLength) (ltb (length new) tableLength) (ltb (length out) tableLength) (not (whole old)) (not (whole new)) (decode old .merged) (decode new .merged) (mergePassesLimit (decode old) (decode new)) zero
+
+  bytes-there : mergedBytes old new out ≡ encode (mergedTable (decode old) (decode new)) ++ drop tableLength out
+  unfolding mergedBytes
+  bytes-there = rw zero
+
+  -- the output is a whole table
+  pub accepted-whole : whole (mergedBytes old new out) ≡ true
+  accepted-whole =
+      rw bytes-there
+      (result-whole old new (not-no (whole old) (clear .oldNotWhole)) (not-no (whole new) (clear .newNotWhole)) (clear .oldMerged) (clear .newMerged) (clear .past) (drop tableLength out))
+
+  -- and reads as model's merge of what the two tables read as
+  pub accepted-decode : decode (mergedBytes old new out) ≡ mergedTable (decode old) (decode new)
+  accepted-decode =
+      ap decode bytes-there
+      ∙ result-decode old new (not-no (whole old) (clear .oldNotWhole)) (not-no (whole new) (clear .newNotWhole)) (clear .oldMerged) (clear .newMerged) (clear .past) (drop tableLength out)
+
+  -- so it is an accepted table where the two are: demand 3 holds of it
+  pub accepted-accepted : Accepted (decode old) → Accepted (decode new) → Accepted (decode (mergedBytes old new out))
+  accepted-accepted a b = rw accepted-decode (byMerging a b (clear .oldMerged) (clear .newMerged) (clear .past))

@@ -1,0 +1,4 @@
+pub mod Merge
+pub mod Kept
+pub mod Counting
+pub mod Copying

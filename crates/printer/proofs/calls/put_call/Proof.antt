@@ -1,0 +1,70 @@
+-- `printer::calls::put_call` meets its contract.
+use borrow.Author.Needs.{needs}
+use native.Mathlib.Omega.{arith}
+use mathlib.Core.Path.{_≡_, sym, ap, _∙_}
+use Rattle.printer.proofs.Laws.{put-none, put-then, put-as, put-length}
+use mathlib.Core.List.{List, [], _∷_, _++_}
+use mathlib.Core.Bool.{Bool}
+use Prim.Native.Nat.{ℕ}
+use Rattle.words.specs.Runs.{run}
+use Rattle.model.specs.Asking.{bytesOf}
+use Rattle.model.specs.Canonical.{joinedBy, each, parameterText, callText}
+use Rattle.model.specs.declared.scan.Span.{Span}
+use Rattle.tables.specs.Reading.{callAt, parameterAt, parametersFrom, callParameters, markAt, nameAt}
+use Rattle.tables.proofs.WholeFacts.{WholeFacts}
+use Rattle.printer.proofs.ReadyFacts.{Within, ready-facts, name-within}
+use Rattle.printer.proofs.calls.put_call.Statement.{statement}
+use Rattle.printer.proofs.calls.put_call.Tie as tie
+
+call-mark-requires : tie.Need-call-mark-requires
+call-mark-requires c κs = let f : WholeFacts (c .before .before .before .before .args .l .now) = ready-facts (c .before .before .before .before .args .l .now) (c .before .before .before .before .args .first .now) (c .before .before .before .before .args .second .now) (c .before .before .before .before .pre .1) in omega (arith, f .long, f .calls, c .before .before .before .before .pre .2)
+
+call-name-requires : tie.Need-call-name-requires
+call-name-requires c κs = let f : WholeFacts (c .before .before .before .before .before .args .l .now) = ready-facts (c .before .before .before .before .before .args .l .now) (c .before .before .before .before .before .args .first .now) (c .before .before .before .before .before .args .second .now) (c .before .before .before .before .before .pre .1) in omega (arith, f .long, f .calls, c .before .before .before .before .before .pre .2)
+
+put-span-requires : tie.Need-put-span-requires
+put-span-requires c κs =
+    let a = c .before .before .before .before .before .before .before .args in
+    let w : Within (c .before .before .call-mark .result) (c .before .call-name .result) (a .first .now) (a .second .now) =
+    name-within (a .l .now) (a .first .now) (a .second .now) (c .before .before .before .before .before .before .before .pre .1) (a .i) (c .before .before .call-mark .result) (c .before .call-name .result) (c .before .before .before .before .before .before .before .pre .2) (c .before .before .call-mark .ensures) (c .before .call-name .ensures)
+    in
+    (omega (arith, c .before .before .before .before .before .before .before .pre .0), w .ends, w .short)
+
+put-byte-requires : tie.Need-put-byte-requires
+put-byte-requires c κs = omega (arith, c .before .before .before .put-span .ensures .1, c .before .before .before .before .before .before .before .before .before .before .before .pre .0)
+
+put-parameters-requires : tie.Need-put-parameters-requires
+put-parameters-requires c κs = (omega (arith, c .before .before .before .put-byte .ensures .next, c .before .before .before .before .before .before .before .put-span .ensures .1, c .before .before .before .before .before .before .before .before .before .before .before .before .before .before .before .pre .0), c .before .before .before .before .before .before .before .before .before .before .before .before .before .before .before .pre .1, c .before .before .before .before .before .before .before .before .before .before .before .before .before .before .before .pre .2)
+
+put-byte-requires-2 : tie.Need-put-byte-requires-2
+put-byte-requires-2 c κs = omega (arith, c .before .before .before .put-parameters .ensures .1, c .before .before .before .before .before .before .before .put-byte .ensures .next, c .before .before .before .before .before .before .before .before .before .before .before .put-span .ensures .1, c .before .before .before .before .before .before .before .before .before .before .before .before .before .before .before .before .before .before .before .pre .0)
+
+same-length : tie.Need-same-length
+same-length c = search needs
+
+returns : tie.Need-returns
+unfolding callText callAt
+returns c =
+    let a = c .before .before .before .before .before .before .before .before .before .before .before .before .before .before .before .before .before .before .before .before .before .before .args in
+    let o = c .before .before .before .before .before .before .before .before .before .before .before .before .before .before .put-span .ensures in
+    let p = c .before .before .before .before .before .before .before .before .before .before .put-byte .ensures in
+    let q = c .before .before .before .before .before .before .put-parameters .ensures in
+    let r = c .before .before .put-byte2 .ensures in
+    let n : bytesOf (a .first .now) (a .second .now) (c .before .before .before .before .before .before .before .before .before .before .before .before .before .before .before .before .before .call-mark .result) (c .before .before .before .before .before .before .before .before .before .before .before .before .before .before .before .before .call-name .result) ≡ bytesOf (a .first .now) (a .second .now) (markAt (a .l .now) (a .i)) (nameAt (a .l .now) (a .i)) =
+    ap (λ (m : Bool). bytesOf (a .first .now) (a .second .now) m (c .before .before .before .before .before .before .before .before .before .before .before .before .before .before .before .before .call-name .result)) (c .before .before .before .before .before .before .before .before .before .before .before .before .before .before .before .before .before .call-mark .ensures)
+    ∙ ap (λ (s : Span). bytesOf (a .first .now) (a .second .now) (markAt (a .l .now) (a .i)) s) (c .before .before .before .before .before .before .before .before .before .before .before .before .before .before .before .before .call-name .ensures)
+    in
+    (put-then (put-as n (o .0)) (put-then p (put-then (q .0) r)), omega (arith, o .1, p .next, q .1, r .next))
+
+pub put-call-spec : {M : Type 1} → statement M
+put-call-spec =
+    tie.close
+    (tie.spec
+    call-mark-requires
+    call-name-requires
+    put-span-requires
+    put-byte-requires
+    put-parameters-requires
+    put-byte-requires-2
+    same-length
+    returns)

@@ -1,0 +1,4 @@
+pub mod Overlay
+pub mod Places
+pub mod Ready
+pub mod Write

@@ -1,0 +1,25 @@
+-- Where the names that are written stand in the table of names, and the order of modifiers.
+use Prim.Native.Nat.{ℕ, _+_, _-_, _*_, _≤_}
+use mathlib.Core.Bool.{Bool, cond, _&&_, _||_}
+use mathlib.Core.List.{List}
+use lib.Dec.{eqb, ltb, leb}
+use Rattle.model.specs.Modifiers.{bit}
+use Rattle.model.specs.Canonical.{decimal}
+use Rattle.names.specs.Table.{nameAt}
+
+-- the j-th bit in the order of writing
+unfoldable pub orderAt : ℕ → ℕ
+orderAt j = cond (eqb j 0) 2 (cond (ltb j 3) (j - 1) j)
+
+-- the place of a bit's long name
+unfoldable pub modifierPlace : ℕ → ℕ
+modifierPlace k = cond (eqb k 2) 0 (cond (ltb k 2) (2 * k + 2) (k + 3))
+
+-- a bit is asked set or clear, or is not testable
+unfoldable pub isAsked : (set clear : ℕ) → Bool → ℕ → Bool
+isAsked set clear colon k = (colon && ltb k 2) || (bit k set || bit k clear)
+
+-- a value from `low` on by its name, the first of `count` at a place; any other in decimal
+unfoldable pub nameOrNumber : (v low count place : ℕ) → List ℕ
+nameOrNumber v low count place =
+    cond (ltb v low) (decimal v) (cond (leb (low + count) v) (decimal v) (nameAt (place + (v - low))))

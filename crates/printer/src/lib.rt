@@ -1,0 +1,47 @@
+// The canonical text of a table, written into lent bytes.
+pub mod bytes;
+pub mod calls;
+pub mod events;
+pub mod lists;
+pub mod numbers;
+pub mod productions;
+
+use model::answers::Written;
+ghost use mathlib.Core.Path.{_≡_};
+ghost use lib.ListN.{length};
+ghost use Rattle.printer.specs.Ready.{Ready};
+ghost use Rattle.printer.specs.Write.{textOf, written, writtenBytes};
+
+// The length of the text: what writing it into one byte returns.
+fn text_length(table: &[u8], first: &[u8], second: &[u8]) -> usize
+    requires { ⌜ Ready (now table) (now first) (now second) ⌝ }
+    ensures { λ r. ⌜ r ≡ length (textOf (now (table .entry)) (now (first .entry)) (now (second .entry))) ⌝ }
+{
+    let mut none = [0u8; 1];
+    productions::put_productions(&mut none, table, first, second)
+}
+
+// Writes the canonical text of a table over its texts at the start of the output.
+pub fn write(table: &[u8], first: &[u8], second: &[u8], out: &mut [u8]) -> Written
+    ensures { λ r. ⌜ r ≡ written (now (table .entry)) (now (first .entry)) (now (second .entry)) (now (out .entry)) ⌝ }
+    ensures { λ r. ⌜ now (out .exit) ≡ writtenBytes (now (table .entry)) (now (first .entry)) (now (second .entry)) (now (out .entry)) ⌝ }
+{
+    if table.len() < 5904 {
+        return Written::Refused(1);
+    }
+    if !tables::check::whole(table) {
+        return Written::Refused(12);
+    }
+    if first.len() < tables::read::first_length(table) {
+        return Written::Refused(12);
+    }
+    if second.len() < tables::read::second_length(table) {
+        return Written::Refused(12);
+    }
+    let n = text_length(table, first, second);
+    if out.len() < n {
+        return Written::Refused(1);
+    }
+    productions::put_productions(out, table, first, second);
+    Written::Accepted(n)
+}
