@@ -1,19 +1,25 @@
--- What an accepted merge gives: a whole table that reads as model's merge of the two tables.
+-- What the output then is: after an accepted merge a whole table that reads as model's merge of the two tables, after a
+-- refusal but 1 the empty table.
 use Prim.Native.Nat.{ℕ}
 use native.Mathlib.Omega.{arith}
-use mathlib.Core.Path.{_≡_, refl, ap, _∙_}
+use mathlib.Core.Path.{_≡_, refl, sym, ap, _∙_}
 use mathlib.Core.Bool.{Bool, true, false, not}
 use mathlib.Core.List.{List, _++_}
 use lib.Dec.{eqb, ltb}
 use lib.ListN.{length, drop}
-use borrow.Author.Tests.{eqb-true}
-use Rattle.model.specs.Numbers.{mergeOrder}
+use borrow.Author.Tests.{eqb-true, ne-eqb}
+use Rattle.words.specs.Words.{cleared}
+use Rattle.model.specs.Numbers.{mergeOrder, mergedNumber}
+use Rattle.model.specs.Compiling.{passesLimit, totalsPass}
+use Rattle.model.specs.Tables.{emptyTable}
 use Rattle.model.specs.Merging.{mergedTable, mergePassesLimit}
 use Rattle.model.specs.Demand.{Accepted, byMerging}
 use Rattle.model.specs.declared.answers.Merged.{Merged}
-use Rattle.tables.specs.Layout.{encode, tableLength}
+use Rattle.tables.specs.Layout.{encode, tableLength, flat}
 use Rattle.tables.specs.Reading.{decode}
+use Rattle.tables.specs.Fitting.{textsInRange, fitting}
 use Rattle.tables.specs.Whole.{whole}
+use Rattle.tables.proofs.Theorems.{whole-encode, decode-encode, encode-empty}
 use Rattle.merger.specs.Merge.{mergeNumber, answerOf, mergeAnswer, mergedBytes}
 use Rattle.merger.proofs.Answer.{not-no}
 use Rattle.merger.proofs.Result.{result-whole, result-decode}
@@ -47,6 +53,35 @@ answer-zero n e = go (eqb n 0) refl
         let f : Merged.Refused n ≡ Merged.Accepted = rw q at e in
         let z : _≡_ {A = ℕ} 0 1 = cc in
         absurd (omega arith)
+
+answer-of : (n : ℕ) → mergedNumber (answerOf n) ≡ n
+answer-of n = go (eqb n 0) refl
+  where
+    go : (t : Bool) → eqb n 0 ≡ t → mergedNumber (answerOf n) ≡ n
+    go true q = rw q (sym (eqb-true n 0 q))
+    go false q = rw q
+
+empty-fits : fitting emptyTable ≡ true
+unfolding fitting textsInRange flat passesLimit totalsPass
+empty-fits = refl
+
+module _ (old new out : List ℕ) where
+  -- the number of the answer
+  pub answer-number : mergedNumber (mergeAnswer old new out) ≡ mergeNumber old new out
+  unfolding mergeAnswer
+  answer-number = answer-of (mergeNumber old new out)
+
+  module _ (ne : mergeNumber old new out ≡ 0 → ⊥) (nl : mergeNumber old new out ≡ 1 → ⊥) where
+    bytes-left : mergedBytes old new out ≡ encode emptyTable ++ drop tableLength out
+    unfolding mergedBytes cleared
+    bytes-left = rw (ne-eqb (mergeNumber old new out) 0 ne, ne-eqb (mergeNumber old new out) 1 nl, encode-empty)
+
+    -- "After any other the compiler and merger leave the output table all zero, an empty table."
+    pub refused-whole : whole (mergedBytes old new out) ≡ true
+    refused-whole = rw bytes-left (whole-encode emptyTable empty-fits (drop tableLength out))
+
+    pub refused-empty : decode (mergedBytes old new out) ≡ emptyTable
+    refused-empty = ap decode bytes-left ∙ decode-encode emptyTable empty-fits (drop tableLength out)
 
 module _ (old new out : List ℕ) (yes : mergeAnswer old new out ≡ Merged.Accepted) where
   zero : mergeNumber old new out ≡ 0
