@@ -9,7 +9,7 @@ use Rattle.printer.proofs.events.put_count.Tie as tie
 
 returns : tie.Need-returns
 unfolding countText
-returns c = (rw (le-ltb 1 _ (c .if1 .taken)) (put-none _ _), search needs)
+returns c = (rw (le-ltb 1 (c .before .before .args .n) (omega arith)) (put-none _ _), search needs)
 
 put-byte-requires : tie.Need-put-byte-requires
 put-byte-requires c κs = search needs
