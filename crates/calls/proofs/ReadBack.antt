@@ -19,10 +19,11 @@ use Rattle.tables.specs.Whole.{whole}
 use Rattle.tables.specs.Fitting.{fitting}
 use Rattle.tables.proofs.Theorems.{decode-encode, whole-encode, whole-length}
 use Rattle.tables.proofs.CompiledFits.{compiled-fits}
+use Rattle.tables.proofs.AcceptedFits.{accepted-fits}
 use Rattle.calls.specs.Refusals.{textsShort, tableRefusal, lentRefusal}
 use Rattle.calls.specs.Answers.{nameAnswer, parameterAnswer}
 use Rattle.calls.specs.Parts.{partOf}
-use Rattle.calls.specs.ReadOut.{IsParameter, ReadsTable, ReadsParameter, ReadsCall, ReadOut}
+use Rattle.calls.specs.ReadOut.{IsParameter, ReadsTable, ReadsParameter, ReadsCall, ReadOut, ReadAccepted}
 use Rattle.calls.proofs.Orders.{settledCount, count-passed, settledPlace, settled-located, place-passed}
 use Rattle.calls.proofs.Answered.{table-good, lent-good-texts}
 use Rattle.calls.proofs.Located.{name-within, parameter-within}
@@ -158,3 +159,7 @@ module _ (text second rest : List ℕ) (t : Table) (e : compiled text ≡ accept
 -- for every text that is accepted
 pub read-out : ReadOut
 read-out text second rest t e = (reads text second rest t e, λ p c call asked. reads-call text second rest t e p c call asked)
+
+-- for every accepted table, merged or not
+pub read-accepted : ReadAccepted
+read-accepted t a first second rest f s = reads-table t (accepted-fits a) first second rest f s

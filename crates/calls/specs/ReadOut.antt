@@ -9,6 +9,7 @@ use lib.ListN.{length, take, drop}
 use Rattle.model.specs.Bytes.{belongs, byteAt, signAt}
 use Rattle.model.specs.Tables.{Call, Table}
 use Rattle.model.specs.Compiling.{accepted, compiled}
+use Rattle.model.specs.Demand.{Accepted}
 use Rattle.model.specs.Asking.{at, askedCall, productionCount, callCount, parameterCount, locatedName, locatedParameter}
 use Rattle.model.specs.declared.scan.Class.{Class}
 use Rattle.model.specs.declared.scan.Span.{Span}
@@ -70,3 +71,10 @@ ReadOut =
     (text second rest : List ℕ) (t : Table) → compiled text ≡ accepted t
     → ReadsTable t (encode t ++ rest) text second
     × ((p c : ℕ) (call : Call) → askedCall t p c ≡ some call → ReadsCall text second (encode t ++ rest) p c call)
+
+-- for every accepted table, merged or not, lent as its bytes with texts at least as long as it keeps: a merged one's parts lie
+-- in whichever of the two texts they came from
+abbrev pub ReadAccepted : Type 0
+ReadAccepted =
+    (t : Table) → Accepted t → (first second rest : List ℕ) → t .firstLength ≤ length first → t .secondLength ≤ length second
+    → ReadsTable t (encode t ++ rest) first second

@@ -1,8 +1,8 @@
 // The compiler: from text to a table in lent memory. Each line is judged whole before anything of it is written.
-pub mod calls;
-pub mod events;
-pub mod line;
-pub mod text;
+mod calls;
+mod events;
+mod line;
+mod text;
 
 use crate::text::compile_lines;
 use crate::text::refuse;

@@ -1,9 +1,9 @@
 // The merge of two tables into lent bytes: judge first, read only, then clear and write.
 use model::answers::Merged;
 
-pub mod compare;
-pub mod copy;
-pub mod count;
+mod compare;
+mod copy;
+mod count;
 
 ghost use mathlib.Core.Path.{_≡_};
 ghost use mathlib.Core.Bool.{false, not};

@@ -1,10 +1,10 @@
 // The canonical text of a table, written into lent bytes.
-pub mod bytes;
-pub mod calls;
-pub mod events;
-pub mod lists;
-pub mod numbers;
-pub mod productions;
+mod bytes;
+mod calls;
+mod events;
+mod lists;
+mod numbers;
+mod productions;
 
 use model::answers::Written;
 ghost use mathlib.Core.Path.{_≡_};
