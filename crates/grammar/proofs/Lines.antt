@@ -18,12 +18,12 @@ use Rattle.model.specs.Tables.{Production}
 use Rattle.model.specs.Compiling.{LineRead, lineRead, Outcome, accepted, tableOf, goOn}
 use Rattle.model.specs.declared.scan.Class.{Class}
 use Rattle.model.specs.declared.events.Directive as Model
+use Rattle.model.proofs.Sameness.{same-eq}
 use Rattle.grammar.specs.Bytes.{blank, lineByte}
 use Rattle.grammar.specs.Tokens.{Run, Blanks}
 use Rattle.grammar.specs.Productions as Grammar
 use Rattle.grammar.specs.Texts.{Line, Directive, startOf}
 use Rattle.grammar.proofs.Places.{At, front, no-blanks, at-start, at-past, at-within, at-next, at-run, same-blank, same-line, run-length}
-use Rattle.grammar.proofs.ModifierLists.{same-eq}
 use Rattle.grammar.proofs.Productions.{Dead, dead-line, line-complete}
 
 -- ---- Where a line ends

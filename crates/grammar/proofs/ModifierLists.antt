@@ -14,21 +14,12 @@ use Rattle.model.specs.Bytes.{skip}
 use Rattle.model.specs.Events as Written
 use Rattle.model.specs.Events.{leadColon, leadFrom, leadAt, modifiersAt, hasTilde, isNoneOrAny, standsAlone, loneList, listOf}
 use Rattle.model.specs.declared.scan.Lead.{Lead}
+use Rattle.model.proofs.Sameness.{same-eq}
 use Rattle.grammar.specs.Bytes.{letterOrDigit}
 use Rattle.grammar.specs.Tokens.{Word, Blanks, Sign, Optional}
 use Rattle.grammar.specs.Modifiers as Grammar
 use Rattle.grammar.proofs.Places.{At, SignView, is, isnt, view, first, past, at-byte, at-next, at-skip, past-blanks, blanks-none, blanks-same, word-first, and-right, blanks-length, word-length, optional-length}
 use Rattle.grammar.proofs.Modifiers.{modifiers-complete, modifiers-length, one-complete}
-
-pub same-eq : (xs ys : List ℕ) → same xs ys ≡ true → xs ≡ ys
-same-eq [] [] e = refl
-same-eq [] (y ∷ ys) e = absurd (false≢true e)
-same-eq (x ∷ xs) [] e = absurd (false≢true e)
-same-eq (x ∷ xs) (y ∷ ys) e = go (eqb x y) refl e (same-eq xs ys)
-  where
-    go : (t : Bool) → eqb x y ≡ t → (t && same xs ys) ≡ true → (same xs ys ≡ true → xs ≡ ys) → x ∷ xs ≡ y ∷ ys
-    go true q f ih = let i : x ≡ y = eqb-true x y q in let j : xs ≡ ys = ih f in cc
-    go false q f ih = absurd (false≢true f)
 
 module _ (l : List ℕ) where
   -- ---- `!` and `:`

@@ -4,11 +4,11 @@ use native.Mathlib.Nat.{le-of-suc-le-suc, not-suc-le-zero}
 use native.Mathlib.Omega.{arith}
 use mathlib.Core.Path.{_≡_, refl}
 use mathlib.Core.List.{List, [], _∷_, _++_, map, append-assoc}
-use lib.ListN.{length, take, drop, getD, length-append, length-drop}
+use lib.ListN.{length, take, drop, getD, length-append, length-drop, List·getD-map}
 use lib.Seq.{take-append-seam, drop-append-seam, length-take-le, getD-take, getD-drop}
 use Rattle.model.specs.Names.{modifierEntries, typeEntries, protocolEntries, synonymEntries, abbreviationEntries}
 use Rattle.model.specs.Details.{keysymEntries, buttonEntries, motionEntries, modeEntries, requestEntries}
-use Rattle.names.specs.Table.{allNames, nameAt, nameText, nameStarts, nameLengths, joined, startsFrom, directiveEntries}
+use Rattle.names.specs.Table.{allNames, nameAt, nameText, nameStarts, nameLengths, nameMarks, markOf, joined, startsFrom, directiveEntries}
 
 abbrev lengthsOf : List (List ℕ) → List ℕ
 lengthsOf ns = map (λ (n : List ℕ). length n) ns
@@ -58,3 +58,8 @@ module _ (k : ℕ) (h : k < 155) where
 
   pub word-byte : (i : ℕ) → i < getD nameLengths k 0 → getD (nameAt k) i 0 ≡ getD nameText (getD nameStarts k 0 + i) 0
   word-byte i l = rw (← word-is, getD-take, getD-drop)
+
+-- the row of marks has the mark of each name
+pub mark-at : (k : ℕ) → getD nameMarks k 0 ≡ markOf (nameAt k)
+unfolding nameMarks nameAt markOf
+mark-at k = List·getD-map markOf allNames k []

@@ -1,6 +1,6 @@
 -- The table of names as the code holds it, computed from the entries of the rules: all names in one text, with the start and
 -- the length of each, and the numbers that each stands for.
-use Prim.Native.Nat.{ℕ, _+_}
+use Prim.Native.Nat.{ℕ, _+_, _-_, _*_, _%_}
 use Prim.Native.String.{String}
 use mathlib.Core.Bool.{cond}
 use mathlib.Core.List.{List, [], _∷_, _++_, map}
@@ -72,6 +72,14 @@ nameStarts = startsFrom 0 allNames
 
 unfoldable pub nameLengths : List ℕ
 nameLengths = map (λ (n : List ℕ). length n) allNames
+
+-- the mark of a word: its first, fourth and last byte and its length, as one number. No two names of a group have the same,
+-- so that a word is compared with one name at most; no rule depends on that.
+unfoldable pub markOf : List ℕ → ℕ
+markOf w = getD w 0 0 + 256 * getD w 3 0 + 65536 * getD w (length w - 1) 0 + 16777216 * (length w % 256)
+
+unfoldable pub nameMarks : List ℕ
+nameMarks = map markOf allNames
 
 -- ---- What names stand for, as numbers
 

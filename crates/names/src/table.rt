@@ -3,7 +3,7 @@
 ghost use mathlib.Core.Path.{_≡_};
 ghost use Prim.Native.Nat.{_<_};
 ghost use lib.ListN.{getD};
-ghost use Rattle.names.specs.Table.{nameText, nameStarts, nameLengths, modifierBits, typeCodes, typeAdded, typeDetails, detailValues};
+ghost use Rattle.names.specs.Table.{nameText, nameStarts, nameLengths, nameMarks, modifierBits, typeCodes, typeAdded, typeDetails, detailValues};
 
 // The first name of each group. A group ends where the next one starts.
 pub const MODIFIERS: usize = 0;
@@ -50,7 +50,7 @@ const NAME_TEXT: [u8; 1237] = *b"\
     None Any ";
 
 // Where each name starts in the text.
-const NAME_STARTS: [usize; 155] = [
+const NAME_STARTS: [u16; 155] = [
     0, // Ctrl
     5, // c
     7, // Shift
@@ -208,7 +208,7 @@ const NAME_STARTS: [usize; 155] = [
     1233, // Any
 ];
 
-const NAME_LENGTHS: [usize; 155] = [
+const NAME_LENGTHS: [u8; 155] = [
     4, // Ctrl
     1, // c
     5, // Shift
@@ -364,6 +364,165 @@ const NAME_LENGTHS: [usize; 155] = [
     8, // #augment
     4, // None
     3, // Any
+];
+
+// The mark of each name: its first, fourth and last byte and its length, the first byte lowest.
+const NAME_MARKS: [u32; 155] = [
+    0x046c6c43, // Ctrl
+    0x01630063, // c
+    0x05746653, // Shift
+    0x01730073, // s
+    0x046b6b4c, // Lock
+    0x016c006c, // l
+    0x0431314d, // Mod1
+    0x0432324d, // Mod2
+    0x0433334d, // Mod3
+    0x0434344d, // Mod4
+    0x0435354d, // Mod5
+    0x07317442, // Button1
+    0x07327442, // Button2
+    0x07337442, // Button3
+    0x07347442, // Button4
+    0x07357442, // Button5
+    0x0461614d, // Meta
+    0x016d006d, // m
+    0x05726548, // Hyper
+    0x01680068, // h
+    0x05726553, // Super
+    0x02750073, // su
+    0x03740041, // Alt
+    0x01610061, // a
+    0x0873504b, // KeyPress
+    0x0a65524b, // KeyRelease
+    0x0b737442, // ButtonPress
+    0x0d657442, // ButtonRelease
+    0x0c79694d, // MotionNotify
+    0x0b796545, // EnterNotify
+    0x0b79764c, // LeaveNotify
+    0x076e7546, // FocusIn
+    0x08747546, // FocusOut
+    0x0c796d4b, // KeymapNotify
+    0x06656f45, // Expose
+    0x0e657047, // GraphicsExpose
+    0x0865784e, // NoExpose
+    0x10796956, // VisibilityNotify
+    0x0c796143, // CreateNotify
+    0x0d797444, // DestroyNotify
+    0x0b796155, // UnmapNotify
+    0x09794e4d, // MapNotify
+    0x0a74524d, // MapRequest
+    0x0e796152, // ReparentNotify
+    0x0f796643, // ConfigureNotify
+    0x10746643, // ConfigureRequest
+    0x0d797647, // GravityNotify
+    0x0d746952, // ResizeRequest
+    0x0f796343, // CirculateNotify
+    0x10746343, // CirculateRequest
+    0x0e797050, // PropertyNotify
+    0x0e726553, // SelectionClear
+    0x10746553, // SelectionRequest
+    0x0f796553, // SelectionNotify
+    0x0e796f43, // ColormapNotify
+    0x0d656543, // ClientMessage
+    0x0d79704d, // MappingNotify
+    0x0379004b, // Key
+    0x076e444b, // KeyDown
+    0x0570554b, // KeyUp
+    0x076e4442, // BtnDown
+    0x05705542, // BtnUp
+    0x066e694d, // Motion
+    0x08644d50, // PtrMoved
+    0x0a64734d, // MouseMoved
+    0x05726545, // Enter
+    0x0b776545, // EnterWindow
+    0x0565764c, // Leave
+    0x0b77764c, // LeaveWindow
+    0x06706d4b, // Keymap
+    0x05707847, // GrExp
+    0x0570784e, // NoExp
+    0x07656956, // Visible
+    0x06656143, // Create
+    0x07797444, // Destroy
+    0x05706155, // Unmap
+    0x0370004d, // Map
+    0x0671524d, // MapReq
+    0x08746152, // Reparent
+    0x09656643, // Configure
+    0x0c716643, // ConfigureReq
+    0x04767647, // Grav
+    0x06715252, // ResReq
+    0x04636343, // Circ
+    0x07716343, // CircReq
+    0x04707050, // Prop
+    0x06724353, // SelClr
+    0x06715253, // SelReq
+    0x06746553, // Select
+    0x06706d43, // Clrmap
+    0x0765734d, // Message
+    0x0767704d, // Mapping
+    0x046c6c43, // Ctrl
+    0x0461614d, // Meta
+    0x05746653, // Shift
+    0x086e3142, // Btn1Down
+    0x06703142, // Btn1Up
+    0x086e3242, // Btn2Down
+    0x06703242, // Btn2Up
+    0x086e3342, // Btn3Down
+    0x06703342, // Btn3Up
+    0x086e3442, // Btn4Down
+    0x06703442, // Btn4Up
+    0x086e3542, // Btn5Down
+    0x06703542, // Btn5Up
+    0x096e4d42, // BtnMotion
+    0x0a6e3142, // Btn1Motion
+    0x0a6e3242, // Btn2Motion
+    0x0a6e3342, // Btn3Motion
+    0x0a6e3442, // Btn4Motion
+    0x0a6e3542, // Btn5Motion
+    0x05656373, // space
+    0x05616d63, // comma
+    0x056e6f63, // colon
+    0x09656b42, // BackSpace
+    0x03620054, // Tab
+    0x066e7552, // Return
+    0x06656145, // Escape
+    0x06656544, // Delete
+    0x04656548, // Home
+    0x0474744c, // Left
+    0x02700055, // Up
+    0x05746852, // Right
+    0x046e6e44, // Down
+    0x02310046, // F1
+    0x02320046, // F2
+    0x02330046, // F3
+    0x02340046, // F4
+    0x02350046, // F5
+    0x02360046, // F6
+    0x02370046, // F7
+    0x02380046, // F8
+    0x02390046, // F9
+    0x03300046, // F10
+    0x03310046, // F11
+    0x03320046, // F12
+    0x07317442, // Button1
+    0x07327442, // Button2
+    0x07337442, // Button3
+    0x07347442, // Button4
+    0x07357442, // Button5
+    0x066c6d4e, // Normal
+    0x04747448, // Hint
+    0x066c6d4e, // Normal
+    0x04626247, // Grab
+    0x06627255, // Ungrab
+    0x0c646c57, // WhileGrabbed
+    0x0872694d, // Modifier
+    0x0864624b, // Keyboard
+    0x07726e50, // Pointer
+    0x08657023, // #replace
+    0x09656523, // #override
+    0x08746723, // #augment
+    0x0465654e, // None
+    0x03790041, // Any
 ];
 
 // Of each modifier name its bit; 13 where the modifier is not built.
@@ -710,6 +869,31 @@ const DETAIL_VALUES: [u32; 39] = [
     2, // Pointer
 ];
 
+fn size(n: u8) -> usize
+    ensures { λ r. ⌜ r ≡ n ⌝ }
+{
+    n as usize
+}
+
+fn offset(n: u16) -> usize
+    ensures { λ r. ⌜ r ≡ n ⌝ }
+{
+    n as usize
+}
+
+// All names, for a reader of many bytes of them: a row is copied where it is used.
+pub fn name_text() -> [u8; 1237]
+    ensures { λ r. ⌜ r ≡ nameText ⌝ }
+{
+    NAME_TEXT
+}
+
+pub fn name_marks() -> [u32; 155]
+    ensures { λ r. ⌜ r ≡ nameMarks ⌝ }
+{
+    NAME_MARKS
+}
+
 // A byte of the text of names.
 pub fn name_byte(i: usize) -> u8
     requires { ⌜ i < 1237 ⌝ }
@@ -722,14 +906,14 @@ pub fn name_start(i: usize) -> usize
     requires { ⌜ i < 155 ⌝ }
     ensures { λ r. ⌜ r ≡ getD nameStarts i 0 ⌝ }
 {
-    NAME_STARTS[i]
+    offset(NAME_STARTS[i])
 }
 
 pub fn name_length(i: usize) -> usize
     requires { ⌜ i < 155 ⌝ }
     ensures { λ r. ⌜ r ≡ getD nameLengths i 0 ⌝ }
 {
-    NAME_LENGTHS[i]
+    size(NAME_LENGTHS[i])
 }
 
 pub fn modifier_bit(i: usize) -> u8

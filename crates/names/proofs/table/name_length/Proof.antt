@@ -7,15 +7,15 @@ use borrow.Author.Needs.{needs}
 use Rattle.names.proofs.table.name_length.Statement.{statement}
 use Rattle.names.proofs.table.name_length.Tie as tie
 
-mul-result : tie.Need-mul-result
-mul-result c = search needs
+array-read-size : tie.Need-array-read-size
+array-read-size c = search needs
 
-array-read-result : tie.Need-array-read-result
-array-read-result c = search needs
+size-requires : tie.Need-size-requires
+size-requires c κs = search needs
 
 returns : tie.Need-returns
 unfolding nameLengths allNames directiveEntries modifierEntries typeEntries protocolEntries synonymEntries abbreviationEntries keysymEntries buttonEntries motionEntries modeEntries requestEntries
-returns c = refl
+returns c = c .size .ensures
 
 pub name-length-spec : {M : Type 1} → statement M
-name-length-spec = tie.close (tie.spec mul-result array-read-result returns)
+name-length-spec = tie.close (tie.spec array-read-size size-requires returns)

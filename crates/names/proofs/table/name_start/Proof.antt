@@ -7,15 +7,18 @@ use borrow.Author.Needs.{needs}
 use Rattle.names.proofs.table.name_start.Statement.{statement}
 use Rattle.names.proofs.table.name_start.Tie as tie
 
-mul-result : tie.Need-mul-result
-mul-result c = search needs
+mul-offset : tie.Need-mul-offset
+mul-offset c = search needs
 
-array-read-result : tie.Need-array-read-result
-array-read-result c = search needs
+array-read-offset : tie.Need-array-read-offset
+array-read-offset c = search needs
+
+offset-requires : tie.Need-offset-requires
+offset-requires c κs = search needs
 
 returns : tie.Need-returns
 unfolding nameStarts allNames directiveEntries modifierEntries typeEntries protocolEntries synonymEntries abbreviationEntries keysymEntries buttonEntries motionEntries modeEntries requestEntries
-returns c = refl
+returns c = c .offset .ensures
 
 pub name-start-spec : {M : Type 1} → statement M
-name-start-spec = tie.close (tie.spec mul-result array-read-result returns)
+name-start-spec = tie.close (tie.spec mul-offset array-read-offset offset-requires returns)
