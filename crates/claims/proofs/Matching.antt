@@ -14,6 +14,7 @@ use Rattle.model.specs.declared.answers.Matched.{Matched}
 use Rattle.machine.specs.Kept.{Step, stepNumber, stepped, keptMatcher}
 use Rattle.machine.specs.Viewed.{Views}
 use Rattle.machine.proofs.Demand.{demand3, step-refuses}
+use Rattle.machine.proofs.Bounded.{stepped-bounded}
 use Rattle.machine.proofs.Viewed.{viewed}
 use Rattle.tables.specs.Layout.{tableLength, encode}
 use Rattle.tables.specs.Fitting.{fitting}
@@ -23,7 +24,7 @@ use Rattle.matcher.specs.declared.state.State.{State}
 use Rattle.matcher.specs.declared.Answer.{Answer}
 use Rattle.matcher.specs.State.{keptOf, stateOf, wholeState}
 use Rattle.matcher.specs.Match.{answerOf, refusedWith, tooShort, matchNumber, callAnswer}
-use Rattle.matcher.proofs.StateLaws.{state-facts, kept-state, state-kept, fresh-whole, fresh-kept}
+use Rattle.matcher.proofs.StateLaws.{state-facts, kept-bounded, kept-state, state-kept, fresh-whole, fresh-kept}
 use Rattle.matcher.proofs.NextLaws.{step-whole}
 use Rattle.claims.specs.Matching.{matcherOn, Demand3OnBytes}
 
@@ -70,7 +71,9 @@ module _ (t : Table) (fit : fitting t ≡ true) (after map : List ℕ) (limit : 
 
     next-same : (b : Bool) → eqb number 0 ≡ b → keptOf (answered b .state) ≡ step .next
     unfolding answerOf
-    next-same true q = kept-state (step .next)
+    next-same true q =
+        let b = stepped-bounded t map limit (keptOf s) (kept-bounded s (state-facts s g)) c .few in
+        kept-state (step .next) (omega arith)
     next-same false q = sym (ap (λ (u : Step). u .next) (refused-step q))
 
     next-whole : (b : Bool) → wholeState (answered b .state) ≡ true

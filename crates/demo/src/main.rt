@@ -40,7 +40,7 @@ fn show(table: &[u8], text: &[u8], label: &[u8], matched: Matched) {
 
 // One event of button 1.
 fn event(table: &[u8], text: &[u8], state: State, code: u8, time: u32, label: &[u8]) -> State {
-    let map = [0u32; 496];
+    let map = [0u8; 1984];
     let r = record(code, time);
     let answer = matcher::match_event(table, &map, MULTI_CLICK_TIME, state, &r, b'l');
     let matched = answer.matched;

@@ -1,8 +1,9 @@
 // Keyboard lookup: the keysym that a keycode's pair gives under Shift and Lock, and whether it is the one asked for.
 ghost use mathlib.Core.Path.{_≡_};
-ghost use Prim.Native.Nat.{_≤_};
+ghost use Prim.Native.Nat.{_+_, _≤_, _<_};
 ghost use lib.ListN.{length};
 ghost use Rattle.model.specs.Keyboard.{isLower, isUpper, upper, lower, picked, keysymOf};
+ghost use Rattle.keyboard.specs.Maps.{numberFrom, mapNumbers};
 ghost use Rattle.keyboard.specs.Pairs.{pairAt, lockGives, pairGives, pairAsked};
 
 // The two keysyms that a keyboard map has for a keycode.
@@ -11,15 +12,29 @@ pub struct Pair {
     pub second: u32,
 }
 
-// Two numbers of the map for each keycode from 8 on.
-pub fn pair_at(map: &[u32], keycode: u8) -> Pair
-    requires { ⌜ (length (now map) ≡ 496) × (8 ≤ keycode) ⌝ }
-    ensures { λ r. ⌜ r ≡ pairAt (now (map .entry)) keycode ⌝ }
+fn wide(b: u8) -> u32
+    ensures { λ r. ⌜ (r ≡ b) × (r < 256) ⌝ }
 {
-    let at = 2 * (keycode as usize - 8);
+    b as u32
+}
+
+// The number that four bytes hold from a place on, the least significant first. It is compiled to one load.
+pub fn number_from(l: &[u8], at: usize) -> u32
+    requires { ⌜ at + 4 ≤ length (now l) ⌝ }
+    ensures { λ r. ⌜ r ≡ numberFrom (now (l .entry)) at ⌝ }
+{
+    wide(l[at]) + 256 * wide(l[at + 1]) + 65536 * wide(l[at + 2]) + 16777216 * wide(l[at + 3])
+}
+
+// Two numbers of the map for each keycode from 8 on.
+pub fn pair_at(map: &[u8], keycode: u8) -> Pair
+    requires { ⌜ (length (mapNumbers (now map)) ≡ 496) × (8 ≤ keycode) ⌝ }
+    ensures { λ r. ⌜ r ≡ pairAt (mapNumbers (now (map .entry))) keycode ⌝ }
+{
+    let at = 8 * (keycode as usize - 8);
     Pair {
-        first: map[at],
-        second: map[at + 1],
+        first: number_from(map, at),
+        second: number_from(map, at + 4),
     }
 }
 

@@ -1,3 +1,4 @@
+pub mod SlotLaws
 pub mod StateLaws
 pub mod TableFacts
 pub mod EventLaws

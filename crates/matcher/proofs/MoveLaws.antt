@@ -2,14 +2,13 @@
 use Prim.Native.Nat.{ℕ, suc, max, _+_, _-_, _≤_, _<_}
 use native.Mathlib.Omega.{arith}
 use native.Mathlib.Numerals.{add-one}
-use borrow.Author.Tests.{eqb-true, eqb-false}
 use mathlib.Core.Path.{_≡_, refl, sym, ap, ap₂, _∙_}
 use mathlib.Core.Bool.{Bool, true, false}
 use mathlib.Core.Option.{Option}
 use mathlib.Core.List.{List, [], _∷_, _++_}
-use lib.Dec.{eqb}
-use lib.ListN.{length, getD, take, drop, set, replicate, length-append}
-use lib.Seq.{set-append-seam, append-snoc, take-suc, drop-append-le, length-take-le, length-slice, take-suc-set, slice-empty, getD-set-same, getD-set-other}
+use lib.ListN.{length, getD, take, drop, replicate, length-append}
+use lib.Seq.{take-suc, drop-append-le, length-take-le, length-slice, slice-empty, getD-take}
+use Rattle.words.specs.Words.{zeros}
 use Rattle.records.specs.Ranges.{EventRanges}
 use Rattle.model.specs.Tables.{Table}
 use Rattle.model.specs.Selection.{Reading}
@@ -17,31 +16,23 @@ use Rattle.model.specs.Matching.{readingOf}
 use Rattle.model.specs.Demand.{selection}
 use Rattle.model.specs.declared.events.Event.{Event}
 use Rattle.machine.specs.Kept.{Kept, longestEnd, grown, moved, chosenIn, choice, marked, kept, hear}
+use Rattle.tables.specs.Whole.{whole}
 use Rattle.matcher.specs.declared.state.State.{State}
 use Rattle.matcher.specs.declared.Answer.{Answer}
 use Rattle.matcher.specs.declared.walk.Passed.{Passed}
-use Rattle.matcher.specs.State.{zeroEvent, slots, keptOf, inSlots, stateWith, stateOf}
-use Rattle.matcher.specs.Walk.{passed, passedIn}
+use Rattle.matcher.specs.State.{zeroEvent, slotsOf, putEvent, bytesOf, inSlots, keptOf, stateWith, stateOf}
+use Rattle.matcher.specs.Walk.{Ready, passed, passedIn}
 use Rattle.matcher.specs.Moves.{answerWith, answerIn, restarted}
 use Rattle.matcher.specs.Match.{answerOf}
-use Rattle.matcher.proofs.StateLaws.{StateFacts, slots-kept, length-kept}
+use Rattle.matcher.proofs.SlotLaws.{length-in, take-slots, put-more}
+use Rattle.matcher.proofs.StateLaws.{StateFacts, InRanges, ranges-more, slots-kept, length-kept, kept-ranges}
 use Rattle.matcher.proofs.PassLaws.{someReads, chosenBy, passed-prefix, passed-chosen, passed-in}
 
 -- ---- Slots
 
-pub no-slots : replicate 25 zeroEvent ≡ inSlots []
-unfolding inSlots
+pub no-slots : replicate 200 0 ≡ inSlots []
+unfolding inSlots bytesOf zeros
 no-slots = refl
-
-pub slots-more : (xs : List Event) (e : Event) → length xs < 25 → set (inSlots xs) (length xs) e ≡ inSlots (xs ++ (e ∷ []))
-unfolding inSlots
-slots-more xs e h =
-    let n : length (xs ++ (e ∷ [])) ≡ length xs + 1 = length-append xs (e ∷ []) in
-    let s : 25 - length xs ≡ suc (25 - length (xs ++ (e ∷ []))) = omega arith in
-    rw s (
-    set-append-seam xs zeroEvent (replicate (25 - length (xs ++ (e ∷ []))) zeroEvent) e
-    ∙ sym (append-snoc xs e (replicate (25 - length (xs ++ (e ∷ []))) zeroEvent))
-    )
 
 module _ (events : List Event) (from : ℕ) where
   one-more : (i : ℕ) → from ≤ i → i < length events
@@ -50,14 +41,15 @@ module _ (events : List Event) (from : ℕ) where
       rw (add-one, take-suc events i zeroEvent m)
       (drop-append-le from (take i events) (getD events i zeroEvent ∷ []) (omega (arith, length-take-le i events (omega arith))))
 
-  pub shift-more : (slots : List Event) (i : ℕ) → from ≤ i → i < length events → length events ≡ 25
-      → slots ≡ inSlots (drop from (take i events))
-      → set slots (i - from) (getD events i zeroEvent) ≡ inSlots (drop from (take (i + 1) events))
-  shift-more slots i h m l e =
+  pub shift-more : (bytes : List ℕ) (i : ℕ) (x : Event) → from ≤ i → i < length events → length events ≡ 25
+      → bytes ≡ inSlots (drop from (take i events)) → x ≡ getD events i zeroEvent
+      → putEvent bytes (i - from) x ≡ inSlots (drop from (take (i + 1) events))
+  shift-more bytes i x h m l e g =
       let n : length (drop from (take i events)) ≡ i - from = length-slice from i events (omega arith) in
       let b : length (drop from (take i events)) < 25 = omega arith in
-      ap₂ (λ (s : List Event) (k : ℕ). set s k (getD events i zeroEvent)) e (sym n)
-      ∙ slots-more (drop from (take i events)) (getD events i zeroEvent) b
+      ap₂ (λ (s : List ℕ) (y : Event). putEvent s (i - from) y) e g
+      ∙ ap (λ (k : ℕ). putEvent (inSlots (drop from (take i events))) k (getD events i zeroEvent)) (sym n)
+      ∙ put-more (drop from (take i events)) (getD events i zeroEvent) b
       ∙ ap inSlots (sym (one-more i h m))
 
   pub shift-none : inSlots [] ≡ inSlots (drop from (take from events))
@@ -121,14 +113,14 @@ module _ (t : Table) (map : List ℕ) (limit : ℕ) where
       step-answer k x ys 0 (passedIn t map limit ys) (moved-no k x p) (sym (passed-in t map limit ys))
 
   -- what the code makes of a new start
-  pub restart-is : (events : List Event) (to selected used at : ℕ) (found : Passed) (moved : List Event)
+  pub restart-is : (events : List Event) (to selected used at : ℕ) (found : Passed) (bytes : List ℕ)
       → length events ≡ 25 → to ≤ 25 → at ≤ to → used ≡ max 1 selected
       → drop at (take to events) ≡ longestEnd R (drop used (take to events))
       → found ≡ passedIn t map limit (drop at (take to events))
-      → moved ≡ inSlots (drop at (take to events))
-      → answerWith found (to - at) 0 moved ≡ restarted t map limit (take to events) selected
+      → bytes ≡ inSlots (drop at (take to events))
+      → answerWith found (to - at) 0 bytes ≡ restarted t map limit (take to events) selected
   unfolding restarted answerIn
-  restart-is events to selected used at found moved long room h u d e m =
+  restart-is events to selected used at found bytes long room h u d e m =
       let ys = drop at (take to events) in
       let g : ys ≡ longestEnd R (drop (max 1 selected) (take to events))
       = d ∙ ap (λ (q : ℕ). longestEnd R (drop q (take to events))) u in
@@ -139,54 +131,77 @@ module _ (t : Table) (map : List ℕ) (limit : ℕ) where
 
 module _ (s : State) (f : StateFacts s) (x : Event) where
   abbrev pub more : List Event
-  more = take (s .kept) (s .events) ++ (x ∷ [])
+  more = take (s .kept) (slotsOf (s .events)) ++ (x ∷ [])
 
-  pub more-taken : take (s .kept + 1) (set (s .events) (s .kept) x) ≡ more
-  more-taken = let l = f .long in let m = f .few in rw add-one (take-suc-set (s .events) (s .kept) x (omega arith))
+  -- the bytes with the event in the next slot
+  abbrev pub grownBytes : List ℕ
+  grownBytes = putEvent (s .events) (s .kept) x
 
-  pub more-slots : set (s .events) (s .kept) x ≡ inSlots more
+  pub more-slots : grownBytes ≡ inSlots more
   more-slots =
       let n = length-kept s f in
       let m = f .few in
-      let b : length (take (s .kept) (s .events)) < 25 = omega arith in
-      ap₂ (λ (q : List Event) (k : ℕ). set q k x) (sym (slots-kept s f)) (sym n) ∙ slots-more (take (s .kept) (s .events)) x b
+      let b : length (take (s .kept) (slotsOf (s .events))) < 25 = omega arith in
+      ap₂ (λ (q : List ℕ) (k : ℕ). putEvent q k x) (sym (slots-kept s f)) (sym n)
+      ∙ put-more (take (s .kept) (slotsOf (s .events))) x b
 
   pub more-length : length more ≡ s .kept + 1
-  more-length = length-append (take (s .kept) (s .events)) (x ∷ []) ∙ ap (λ (n : ℕ). n + 1) (length-kept s f)
+  more-length = length-append (take (s .kept) (slotsOf (s .events))) (x ∷ []) ∙ ap (λ (n : ℕ). n + 1) (length-kept s f)
 
-  pub more-ranges : EventRanges x → (j : ℕ) → j < s .kept + 1 → EventRanges (getD (set (s .events) (s .kept) x) j zeroEvent)
-  more-ranges r j h = go (eqb j (s .kept)) refl
+  pub more-long : length grownBytes ≡ 200
+  more-long = let m = f .few in let n = more-length in ap length more-slots ∙ length-in more (omega arith)
+
+  pub more-taken : take (s .kept + 1) (slotsOf grownBytes) ≡ more
+  more-taken =
+      let m = f .few in
+      let n = more-length in
+      ap₂ (λ (k : ℕ) (l : List ℕ). take k (slotsOf l)) (sym more-length) more-slots ∙ take-slots more (omega arith)
+
+  pub more-ranges : EventRanges x → (j : ℕ) → j < s .kept + 1 → EventRanges (getD (slotsOf grownBytes) j zeroEvent)
+  unfolding keptOf
+  more-ranges r j h =
+      let e : getD (slotsOf grownBytes) j zeroEvent ≡ getD more j zeroEvent
+      = sym (getD-take (s .kept + 1) (slotsOf grownBytes) j zeroEvent h) ∙ ap (λ (l : List Event). getD l j zeroEvent) more-taken in
+      rw e (more-in j (omega (arith, more-length)))
     where
-      go : (t : Bool) → eqb j (s .kept) ≡ t → EventRanges (getD (set (s .events) (s .kept) x) j zeroEvent)
-      go true q =
-          let l = f .long in
-          let m = f .few in
-          let b : s .kept < length (s .events) = omega arith in
-          let e : j ≡ s .kept = eqb-true j (s .kept) q in
-          rw (e, getD-set-same (s .events) (s .kept) x zeroEvent b) r
-      go false q =
-          let e : j ≡ s .kept → ⊥ = eqb-false j (s .kept) q in
-          let b : j < s .kept = omega arith in
-          rw (getD-set-other (s .events) (s .kept) j x zeroEvent e) (f .used j b)
+      more-in : InRanges more
+      more-in = ranges-more (take (s .kept) (slotsOf (s .events))) x (kept-ranges s f) r
 
-  pub answer-more : (found : Passed) → answerWith found (s .kept + 1) (s .selected) (set (s .events) (s .kept) x) ≡ answerIn found more (s .selected)
+  -- what a walk along the grown stretch may rely on
+  pub more-ready : (l map bytes : List ℕ) → whole l ≡ true → length map ≡ 496 → EventRanges x → bytes ≡ grownBytes
+      → Ready l map bytes (s .kept + 1)
+  more-ready l map bytes w m r e =
+      let n = f .few in
+      record {
+        isWhole = w;
+        mapped = m;
+        long = ap length e ∙ more-long;
+        room = omega arith;
+        ranges = λ j h. rw e (more-ranges r j h);
+      }
+
+  pub answer-more : (found : Passed) → answerWith found (s .kept + 1) (s .selected) grownBytes ≡ answerIn found more (s .selected)
   unfolding answerIn
   answer-more found = rw (more-slots, more-length)
 
-module _ (t : Table) (map : List ℕ) (limit : ℕ) (s : State) (f : StateFacts s) (x : Event) where
+module _ (t : Table) (map : List ℕ) (limit : ℕ) (s : State) (f : StateFacts s) (x : Event) (bytes : List ℕ) (g : bytes ≡ putEvent (s .events) (s .kept) x) where
   abbrev taken : List Event
-  taken = take (s .kept + 1) (set (s .events) (s .kept) x)
+  taken = take (s .kept + 1) (slotsOf bytes)
+
+  taken-is : taken ≡ more s f x
+  taken-is = ap (λ (l : List ℕ). take (s .kept + 1) (slotsOf l)) g ∙ more-taken s f x
 
   pub heard-no : (found : Passed) → found ≡ passed t map limit taken → found ≡ Passed.No
       → restarted t map limit taken (s .selected) ≡ answerOf (hear t map limit (keptOf s) x)
   unfolding keptOf
   heard-no found e q =
-      ap (λ (ys : List Event). restarted t map limit ys (s .selected)) (more-taken s f x)
-      ∙ sym (moves-on t map limit (keptOf s) x found (e ∙ ap (passed t map limit) (more-taken s f x)) q)
+      ap (λ (ys : List Event). restarted t map limit ys (s .selected)) taken-is
+      ∙ sym (moves-on t map limit (keptOf s) x found (e ∙ ap (passed t map limit) taken-is) q)
 
   pub heard-yes : (found : Passed) → found ≡ passed t map limit taken → someReads found ≡ true
-      → answerWith found (s .kept + 1) (s .selected) (set (s .events) (s .kept) x) ≡ answerOf (hear t map limit (keptOf s) x)
+      → answerWith found (s .kept + 1) (s .selected) bytes ≡ answerOf (hear t map limit (keptOf s) x)
   unfolding keptOf
   heard-yes found e q =
-      answer-more s f x found
-      ∙ sym (goes-on t map limit (keptOf s) x found (e ∙ ap (passed t map limit) (more-taken s f x)) q)
+      ap (answerWith found (s .kept + 1) (s .selected)) g
+      ∙ answer-more s f x found
+      ∙ sym (goes-on t map limit (keptOf s) x found (e ∙ ap (passed t map limit) taken-is) q)

@@ -26,23 +26,14 @@ use Rattle.tables.specs.Whole.{whole}
 use Rattle.matcher.specs.declared.state.State.{State}
 use Rattle.matcher.specs.State.{zeroEvent, keptOf, stateOf, wholeState}
 use Rattle.matcher.specs.Match.{answerOf, tooShort, matchNumber, callAnswer}
-use Rattle.matcher.proofs.StateLaws.{InRanges, state-facts, kept-ranges, kept-bounded, bounded-whole}
+use Rattle.matcher.proofs.StateLaws.{InRanges, ranges-tail, ranges-more, state-facts, kept-ranges, kept-bounded, bounded-whole}
 
 -- ---- Events in range
-
-ranges-tail : (x : Event) (xs : List Event) → InRanges (x ∷ xs) → InRanges xs
-ranges-tail x xs r i h = r (suc i) (omega arith)
 
 ranges-drop : (n : ℕ) (xs : List Event) → InRanges xs → InRanges (drop n xs)
 ranges-drop n xs r i h =
     let b : n + i < length xs = omega (arith, length-drop n xs) in
     rw (getD-drop n xs i zeroEvent) (r (n + i) b)
-
-ranges-more : (xs : List Event) (x : Event) → InRanges xs → EventRanges x → InRanges (xs ++ (x ∷ []))
-ranges-more [] x r e zero h = e
-ranges-more [] x r e (suc i) h = absurd (omega arith)
-ranges-more (y ∷ ys) x r e zero h = r zero (omega arith)
-ranges-more (y ∷ ys) x r e (suc i) h = ranges-more ys x (ranges-tail y ys r) e i (omega arith)
 
 module _ (R : Reading Event) where
   ranges-longest : (xs : List Event) → InRanges xs → InRanges (longestEnd R xs)

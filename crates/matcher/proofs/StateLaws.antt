@@ -1,5 +1,5 @@
 -- A whole state and what it stands for determine each other.
-use Prim.Native.Nat.{ℕ, _+_, _-_, _≤_, _<_}
+use Prim.Native.Nat.{ℕ, zero, suc, _+_, _*_, _-_, _≤_, _<_}
 use native.Mathlib.Omega.{arith}
 use native.Mathlib.Nat.{zero-add}
 use borrow.Author.Tests.{eqb-true, eq-eqb, leb-true, ltb-true, ltb-false, le-leb, lt-ltb, le-ltb}
@@ -7,8 +7,8 @@ use mathlib.Core.Path.{_≡_, refl, sym, ap, _∙_}
 use mathlib.Core.Bool.{Bool, true, false, not, _&&_, _||_, false≢true}
 use mathlib.Core.List.{List, [], _∷_, _++_}
 use lib.Dec.{eqb, leb, ltb}
-use lib.ListN.{length, getD, take, replicate, length-append, length-replicate, getD-replicate, List·getD-append}
-use lib.Seq.{take-at, ext-getD, getD-take, length-take-le, getD-append-add}
+use lib.ListN.{length, getD, take}
+use lib.Seq.{getD-take, length-take-le}
 use Rattle.words.specs.Runs.{every}
 use Rattle.words.proofs.Bools.{chain-parts, chain-all}
 use Rattle.words.proofs.RunLaws.{every-at, every-all}
@@ -16,42 +16,10 @@ use Rattle.records.specs.Ranges.{EventRanges}
 use Rattle.model.specs.declared.events.Event.{Event}
 use Rattle.machine.specs.Kept.{Kept, Bounded, fresh}
 use Rattle.matcher.specs.declared.state.State.{State}
-use Rattle.matcher.specs.State.{zeroEvent, slots, keptOf, inSlots, stateWith, stateOf, freshState, eventWhole, eventZero, slotWhole, slotAt, marksWhole, wholeState}
-
--- ---- Events in slots
-
-pub take-slots : (xs : List Event) → take (length xs) (inSlots xs) ≡ xs
-unfolding inSlots
-take-slots xs = take-at xs (replicate (slots - length xs) zeroEvent) (length xs) refl
-
-pub length-slots : (xs : List Event) → length xs ≤ slots → length (inSlots xs) ≡ slots
-unfolding inSlots
-length-slots xs l =
-    omega (arith, length-append xs (replicate (slots - length xs) zeroEvent), length-replicate (slots - length xs) zeroEvent)
-
-slot-used : (xs : List Event) (i : ℕ) → i < length xs → getD (inSlots xs) i zeroEvent ≡ getD xs i zeroEvent
-unfolding inSlots
-slot-used xs i l = List·getD-append xs (replicate (slots - length xs) zeroEvent) zeroEvent i l
-
-slot-unused : (xs : List Event) (i : ℕ) → length xs ≤ i → i < slots → getD (inSlots xs) i zeroEvent ≡ zeroEvent
-unfolding inSlots
-slot-unused xs i l m =
-    let e : i ≡ length xs + (i - length xs) = omega arith in
-    let h : i - length xs < slots - length xs = omega arith in
-    ap (λ (n : ℕ). getD (xs ++ replicate (slots - length xs) zeroEvent) n zeroEvent) e
-    ∙ getD-append-add xs (replicate (slots - length xs) zeroEvent) (i - length xs) zeroEvent
-    ∙ getD-replicate (slots - length xs) (i - length xs) zeroEvent zeroEvent h
+use Rattle.matcher.specs.State.{zeroEvent, slotBytes, eventIn, slotsOf, keptOf, inSlots, stateWith, stateOf, freshState, eventWhole, lowBytes, usedWhole, byteZero, slotsWhole, marksWhole, wholeState}
+use Rattle.matcher.proofs.SlotLaws.{length-slots, in-slot, length-in, slot-used, take-slots, byte-unused, low-used, slots-read}
 
 -- ---- One slot
-
-event-path : (a b : Event) → a .code ≡ b .code → a .detail ≡ b .detail → a .time ≡ b .time → a .state ≡ b .state → a ≡ b
-event-path a b p q r s = λ i. record { code = p i; detail = q i; time = r i; state = s i }
-
-zero-event : (e : Event) → eventZero e ≡ true → e ≡ zeroEvent
-unfolding eventZero
-zero-event e q =
-    let r = chain-parts (eqb (e .code) 0) (eqb (e .detail) 0 ∷ eqb (e .time) 0 ∷ eqb (e .state) 0 ∷ []) q in
-    event-path e zeroEvent (eqb-true _ _ (r .0)) (eqb-true _ _ (r .1 .0)) (eqb-true _ _ (r .1 .1 .0)) (eqb-true _ _ (r .1 .1 .1 .0))
 
 pub event-ranges : (e : Event) → eventWhole e ≡ true → EventRanges e
 unfolding eventWhole
@@ -82,12 +50,13 @@ ranges-event e r =
 -- ---- What a whole state has
 
 pub record StateFacts (s : State) : Type 0 where
-  pub long : length (s .events) ≡ 25
+  pub long : length (s .events) ≡ 200
   pub few : s .kept ≤ 24
   pub within : s .selected ≤ s .kept
   pub isOpen : s .«open» ≡ not (eqb (s .kept) 0)
-  pub used : (i : ℕ) → i < s .kept → EventRanges (getD (s .events) i zeroEvent)
-  pub unused : (i : ℕ) → s .kept ≤ i → i < 25 → getD (s .events) i zeroEvent ≡ zeroEvent
+  pub low : (i : ℕ) → i < s .kept → lowBytes (s .events) i ≡ true
+  pub used : (i : ℕ) → i < s .kept → EventRanges (eventIn (s .events) i)
+  pub unused : (k : ℕ) → 8 * s .kept ≤ k → k < 200 → getD (s .events) k 0 ≡ 0
 
 as-open : (o z : Bool) → ((o && not z) || (not o && z)) ≡ true → o ≡ not z
 as-open true true q = absurd (false≢true q)
@@ -100,36 +69,53 @@ open-as true = refl
 open-as false = refl
 
 pub state-facts : (s : State) → wholeState s ≡ true → StateFacts s
-unfolding wholeState marksWhole slotAt
+unfolding wholeState marksWhole slotsWhole usedWhole byteZero
 state-facts s q =
-    let r = chain-parts (eqb (length (s .events)) slots) (marksWhole (s .kept) (s .selected) (s .«open») ∷ every (slotAt (s .events) (s .kept)) 0 slots ∷ []) q in
+    let r = chain-parts (eqb (length (s .events)) slotBytes) (marksWhole (s .kept) (s .selected) (s .«open») ∷ slotsWhole (s .events) (s .kept) ∷ []) q in
     let m =
     chain-parts (leb (s .kept) 24)
     (leb (s .selected) (s .kept) ∷ ((s .«open» && not (eqb (s .kept) 0)) || (not (s .«open») && eqb (s .kept) 0)) ∷ [])
     (r .1 .0) in
+    let t =
+    chain-parts (every (lowBytes (s .events)) 0 (s .kept))
+    (every (usedWhole (s .events)) 0 (s .kept) ∷ every (byteZero (s .events)) (8 * s .kept) (slotBytes - 8 * s .kept) ∷ [])
+    (r .1 .1 .0) in
     let few : s .kept ≤ 24 = leb-true (s .kept) 24 (m .0) in
     record {
-      long = eqb-true (length (s .events)) slots (r .0);
+      long = eqb-true (length (s .events)) slotBytes (r .0);
       few = few;
       within = leb-true (s .selected) (s .kept) (m .1 .0);
       isOpen = as-open (s .«open») (eqb (s .kept) 0) (m .1 .1 .0);
-      used = λ i h.
-          let l : i < 25 = omega arith in
-          let w : slotAt (s .events) (s .kept) i ≡ true = rw zero-add at (every-at (slotAt (s .events) (s .kept)) 0 25 i (r .1 .1 .0) l) in
-          event-ranges (getD (s .events) i zeroEvent)
-          (ap (λ (t : Bool). slotWhole t (getD (s .events) i zeroEvent)) (sym (lt-ltb i (s .kept) h)) ∙ w);
-      unused = λ i h l.
-          let w : slotAt (s .events) (s .kept) i ≡ true = rw zero-add at (every-at (slotAt (s .events) (s .kept)) 0 25 i (r .1 .1 .0) l) in
-          zero-event (getD (s .events) i zeroEvent)
-          (ap (λ (t : Bool). slotWhole t (getD (s .events) i zeroEvent)) (sym (le-ltb i (s .kept) h)) ∙ w);
+      low = λ i h. rw zero-add at (every-at (lowBytes (s .events)) 0 (s .kept) i (t .0) h);
+      used = λ i h. event-ranges (eventIn (s .events) i) (rw zero-add at (every-at (usedWhole (s .events)) 0 (s .kept) i (t .1 .0) h));
+      unused = λ k h l.
+          let e : 8 * s .kept + (k - 8 * s .kept) ≡ k = omega arith in
+          let b : k - 8 * s .kept < slotBytes - 8 * s .kept = omega arith in
+          eqb-true (getD (s .events) k 0) 0
+          (ap (byteZero (s .events)) (sym e) ∙ every-at (byteZero (s .events)) (8 * s .kept) (slotBytes - 8 * s .kept) (k - 8 * s .kept) (t .1 .1 .0) b);
     }
 
+pub marks-few : (kept selected : ℕ) (isOpen : Bool) → marksWhole kept selected isOpen ≡ true → kept ≤ 24
+unfolding marksWhole
+marks-few kept selected isOpen q =
+    leb-true kept 24
+    (chain-parts (leb kept 24) (leb selected kept ∷ ((isOpen && not (eqb kept 0)) || (not isOpen && eqb kept 0)) ∷ []) q .0)
+
+-- marks that are not whole are those of no whole state
+pub marks-not : (s : State) → marksWhole (s .kept) (s .selected) (s .«open») ≡ false → wholeState s ≡ false
+unfolding wholeState
+marks-not s q = rw q (no-part (eqb (length (s .events)) slotBytes) (slotsWhole (s .events) (s .kept)))
+  where
+    no-part : (a b : Bool) → (a && false && b) ≡ false
+    no-part true b = refl
+    no-part false b = refl
+
 pub facts-state : (s : State) → StateFacts s → wholeState s ≡ true
-unfolding wholeState marksWhole slotAt eventZero
+unfolding wholeState marksWhole slotsWhole usedWhole byteZero
 facts-state s f =
-    chain-all (eqb (length (s .events)) slots) (marksWhole (s .kept) (s .selected) (s .«open») ∷ every (slotAt (s .events) (s .kept)) 0 slots ∷ []) (
-      eq-eqb (length (s .events)) slots (f .long),
-      (marks, (every-all (slotAt (s .events) (s .kept)) 0 slots (λ i h. rw zero-add (each i h)), tt)),
+    chain-all (eqb (length (s .events)) slotBytes) (marksWhole (s .kept) (s .selected) (s .«open») ∷ slotsWhole (s .events) (s .kept) ∷ []) (
+      eq-eqb (length (s .events)) slotBytes (f .long),
+      (marks, (held, tt)),
     )
   where
     marks : marksWhole (s .kept) (s .selected) (s .«open») ≡ true
@@ -140,12 +126,20 @@ facts-state s f =
         (le-leb (s .kept) 24 (f .few), (le-leb (s .selected) (s .kept) (f .within), (open-as (eqb (s .kept) 0), tt)))
         )
 
-    each : (i : ℕ) → i < slots → slotAt (s .events) (s .kept) i ≡ true
-    each i h = go (ltb i (s .kept)) refl
-      where
-        go : (t : Bool) → ltb i (s .kept) ≡ t → slotAt (s .events) (s .kept) i ≡ true
-        go true q = rw q (ranges-event (getD (s .events) i zeroEvent) (f .used i (ltb-true i (s .kept) q)))
-        go false q = rw (q, f .unused i (ltb-false i (s .kept) q) h)
+    held : slotsWhole (s .events) (s .kept) ≡ true
+    held =
+        chain-all (every (lowBytes (s .events)) 0 (s .kept))
+        (every (usedWhole (s .events)) 0 (s .kept) ∷ every (byteZero (s .events)) (8 * s .kept) (slotBytes - 8 * s .kept) ∷ []) (
+          every-all (lowBytes (s .events)) 0 (s .kept) (λ i h. rw zero-add (f .low i h)),
+          (
+            every-all (usedWhole (s .events)) 0 (s .kept) (λ i h. rw zero-add (ranges-event (eventIn (s .events) i) (f .used i h))),
+            (
+              every-all (byteZero (s .events)) (8 * s .kept) (slotBytes - 8 * s .kept)
+                  (λ i h. eq-eqb (getD (s .events) (8 * s .kept + i) 0) 0 (f .unused (8 * s .kept + i) (omega arith) (omega arith))),
+              tt,
+            ),
+          ),
+        )
 
 -- ---- The laws
 
@@ -155,33 +149,17 @@ kept-path a b p q = λ i. record { events = p i; selected = q i }
 state-path : (a b : State) → a .kept ≡ b .kept → a .selected ≡ b .selected → a .«open» ≡ b .«open» → a .events ≡ b .events → a ≡ b
 state-path a b p q r t = λ i. record { kept = p i; selected = q i; «open» = r i; events = t i }
 
-pub kept-state : (k : Kept Event) → keptOf (stateOf k) ≡ k
+pub kept-state : (k : Kept Event) → length (k .events) ≤ 25 → keptOf (stateOf k) ≡ k
 unfolding keptOf stateOf stateWith
-kept-state k = kept-path (keptOf (stateOf k)) k (take-slots (k .events)) refl
+kept-state k h = kept-path (keptOf (stateOf k)) k (take-slots (k .events) h) refl
 
 module _ (s : State) (f : StateFacts s) where
-  pub length-kept : length (take (s .kept) (s .events)) ≡ s .kept
-  length-kept = let l = f .long in let m = f .few in length-take-le (s .kept) (s .events) (omega arith)
+  pub length-kept : length (take (s .kept) (slotsOf (s .events))) ≡ s .kept
+  length-kept = let m = f .few in length-take-le (s .kept) (slotsOf (s .events)) (omega (arith, length-slots (s .events)))
 
   -- the slots hold the events that are kept, and zero
-  pub slots-kept : inSlots (take (s .kept) (s .events)) ≡ s .events
-  slots-kept =
-      let l = f .long in
-      let m = f .few in
-      let n = length-kept in
-      let k : length (inSlots (take (s .kept) (s .events))) ≡ 25 = length-slots (take (s .kept) (s .events)) (omega arith) in
-      ext-getD zeroEvent (inSlots (take (s .kept) (s .events))) (s .events) (k ∙ sym l) (λ i h. go i (omega arith) (ltb i (s .kept)) refl)
-    where
-      go : (i : ℕ) → i < 25 → (t : Bool) → ltb i (s .kept) ≡ t
-          → getD (inSlots (take (s .kept) (s .events))) i zeroEvent ≡ getD (s .events) i zeroEvent
-      go i h true q =
-          let b : i < s .kept = ltb-true i (s .kept) q in
-          let n = length-kept in
-          slot-used (take (s .kept) (s .events)) i (omega arith) ∙ getD-take (s .kept) (s .events) i zeroEvent b
-      go i h false q =
-          let b : s .kept ≤ i = ltb-false i (s .kept) q in
-          let n = length-kept in
-          slot-unused (take (s .kept) (s .events)) i (omega arith) h ∙ sym (f .unused i b h)
+  pub slots-kept : inSlots (take (s .kept) (slotsOf (s .events))) ≡ s .events
+  slots-kept = let m = f .few in slots-read (s .events) (s .kept) (f .long) (omega arith) (f .low) (f .unused)
 
   pub state-kept : stateOf (keptOf s) ≡ s
   unfolding keptOf stateOf stateWith
@@ -196,26 +174,37 @@ module _ (s : State) (f : StateFacts s) where
 abbrev pub InRanges : List Event → Type 0
 InRanges xs = (i : ℕ) → i < length xs → EventRanges (getD xs i zeroEvent)
 
+pub ranges-tail : (x : Event) (xs : List Event) → InRanges (x ∷ xs) → InRanges xs
+ranges-tail x xs r i h = r (suc i) (omega arith)
+
+pub ranges-more : (xs : List Event) (x : Event) → InRanges xs → EventRanges x → InRanges (xs ++ (x ∷ []))
+ranges-more [] x r e zero h = e
+ranges-more [] x r e (suc i) h = absurd (omega arith)
+ranges-more (y ∷ ys) x r e zero h = r zero (omega arith)
+ranges-more (y ∷ ys) x r e (suc i) h = ranges-more ys x (ranges-tail y ys r) e i (omega arith)
+
 pub bounded-whole : (k : Kept Event) → Bounded k → InRanges (k .events) → wholeState (stateOf k) ≡ true
 unfolding stateOf stateWith
 bounded-whole k b r =
     let m = b .few in
     facts-state (stateOf k) (
     record {
-      long = length-slots (k .events) (omega arith);
+      long = length-in (k .events) (omega arith);
       few = b .few;
       within = b .within;
       isOpen = refl;
+      low = λ i h. low-used (k .events) i h;
       used = λ i h. rw (slot-used (k .events) i h) (r i h);
-      unused = λ i h l. slot-unused (k .events) i h l;
+      unused = λ i h l. byte-unused (k .events) i h;
     }
     )
 
 pub kept-ranges : (s : State) → StateFacts s → InRanges (keptOf s .events)
 unfolding keptOf
 kept-ranges s f i h =
+    let m = f .few in
     let b : i < s .kept = omega (arith, length-kept s f) in
-    rw (getD-take (s .kept) (s .events) i zeroEvent b) (f .used i b)
+    rw (getD-take (s .kept) (slotsOf (s .events)) i zeroEvent b, ← in-slot (s .events) i (omega arith)) (f .used i b)
 
 pub kept-bounded : (s : State) → StateFacts s → Bounded (keptOf s)
 unfolding keptOf

@@ -25,11 +25,11 @@ markBy Passed.No kept selected = selected
 markBy Passed.Prefix kept selected = selected
 markBy (Passed.Chosen p) kept selected = kept
 
-unfoldable pub answerWith : Passed → (kept selected : ℕ) → List Event → Answer
-answerWith found kept selected slots =
+unfoldable pub answerWith : Passed → (kept selected : ℕ) → List ℕ → Answer
+answerWith found kept selected bytes =
     record {
       matched = matchedBy found;
-      state = record { kept = kept; selected = markBy found kept selected; «open» = not (eqb kept 0); events = slots };
+      state = record { kept = kept; selected = markBy found kept selected; «open» = not (eqb kept 0); events = bytes };
     }
 
 -- the answer of a context of these events

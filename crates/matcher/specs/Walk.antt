@@ -23,7 +23,7 @@ use Rattle.tables.specs.Whole.{whole}
 use Rattle.records.specs.Ranges.{EventRanges}
 use Rattle.matcher.specs.declared.walk.Followed.{Followed}
 use Rattle.matcher.specs.declared.walk.Passed.{Passed}
-use Rattle.matcher.specs.State.{zeroEvent}
+use Rattle.matcher.specs.State.{zeroEvent, slotsOf}
 
 -- ---- One event
 
@@ -71,12 +71,14 @@ followed map limit xs p = walked map limit none none (sequence p) xs
 unfoldable pub sizeIn : List ℕ → ℕ → ℕ
 sizeIn l i = elementCount (eventAt l i .code) (eventAt l i .count)
 
--- what the walk may rely on: a whole table, a keyboard map of the right length, and events as they are read, in their slots
-pub record Ready (l map : List ℕ) (slots : List Event) (to : ℕ) : Type 0 where
+-- what the walk may rely on: a whole table, a keyboard map of the right length, and events as they are read, in the slots
+-- that these bytes are
+pub record Ready (l map bytes : List ℕ) (to : ℕ) : Type 0 where
   pub isWhole : whole l ≡ true
   pub mapped : length map ≡ 496
+  pub long : length bytes ≡ 200
   pub room : to ≤ 25
-  pub ranges : (j : ℕ) → j < to → EventRanges (getD slots j zeroEvent)
+  pub ranges : (j : ℕ) → j < to → EventRanges (getD (slotsOf bytes) j zeroEvent)
 
 -- ---- One pass over the productions
 

@@ -3,6 +3,7 @@ ghost use mathlib.Core.Path.{_≡_};
 ghost use mathlib.Core.Bool.{false, not};
 ghost use Rattle.model.specs.Numbers.{matchOrder, recordNumber};
 ghost use Rattle.tables.specs.Whole.{whole};
+ghost use Rattle.keyboard.specs.Maps.{mapNumbers};
 ghost use Rattle.matcher.specs.State.{wholeState};
 ghost use Rattle.matcher.specs.Match.{tooShort, refusedWith, matchAnswer};
 
@@ -21,8 +22,8 @@ pub struct Answer {
     pub state: State,
 }
 
-// How many numbers a keyboard map has.
-const MAP_LENGTH: usize = 496;
+// How many bytes a keyboard map has: 496 numbers of four bytes each.
+const MAP_BYTES: usize = 1984;
 
 // The numbers that refuse a call whatever its record.
 const SHORT_BUFFER: u8 = 1;
@@ -32,13 +33,13 @@ const TABLE_NOT_WHOLE: u8 = 12;
 const STATE_NOT_WHOLE: u8 = 14;
 
 // The first of them that applies, 0 where none does.
-fn refusal(table: &[u8], map: &[u32], state: State) -> u8
-    ensures { λ r. ⌜ r ≡ matchOrder (tooShort (now (table .entry)) (now (map .entry))) (not (whole (now (table .entry)))) (not (wholeState state)) false false ⌝ }
+fn refusal(table: &[u8], map: &[u8], state: State) -> u8
+    ensures { λ r. ⌜ r ≡ matchOrder (tooShort (now (table .entry)) (mapNumbers (now (map .entry)))) (not (whole (now (table .entry)))) (not (wholeState state)) false false ⌝ }
 {
     if table.len() < tables::TABLE_LENGTH {
         return SHORT_BUFFER;
     }
-    if map.len() != MAP_LENGTH {
+    if map.len() != MAP_BYTES {
         return SHORT_BUFFER;
     }
     if !tables::check::whole(table) {
@@ -73,13 +74,13 @@ fn number_of(read: RecordRead) -> u8
 // One call. 15 is never given: no stretch of more than 24 events reads as a prefix of a whole table.
 pub fn match_event(
     table: &[u8],
-    map: &[u32],
+    map: &[u8],
     limit: u32,
     state: State,
     record: &[u8],
     order: u8,
 ) -> Answer
-    ensures { λ r. ⌜ r ≡ matchAnswer (now (table .entry)) (now (map .entry)) limit state (now («record» .entry)) order ⌝ }
+    ensures { λ r. ⌜ r ≡ matchAnswer (now (table .entry)) (mapNumbers (now (map .entry))) limit state (now («record» .entry)) order ⌝ }
 {
     let number = refusal(table, map, state);
     if number != 0 {

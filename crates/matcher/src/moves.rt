@@ -7,11 +7,13 @@ ghost use Rattle.records.specs.Ranges.{EventRanges};
 ghost use Rattle.machine.specs.Kept.{hear};
 ghost use Rattle.tables.specs.Reading.{decode};
 ghost use Rattle.tables.specs.Whole.{whole};
-ghost use Rattle.matcher.specs.State.{inSlots, wholeState, keptOf};
+ghost use Rattle.matcher.specs.State.{slotsOf, inSlots, wholeState, keptOf};
+ghost use Rattle.keyboard.specs.Maps.{mapNumbers};
 ghost use Rattle.matcher.specs.Walk.{Ready};
 ghost use Rattle.matcher.specs.Moves.{answerWith, restarted};
 ghost use Rattle.matcher.specs.Match.{answerOf};
 use crate::Answer;
+use crate::state;
 use crate::state::State;
 use crate::walk;
 use crate::walk::Passed;
@@ -19,22 +21,21 @@ use model::answers::Matched;
 use model::events::Event;
 
 // Events from..to, moved to the first slots; the others are zero.
-fn shifted(events: [Event; 25], from: usize, to: usize) -> [Event; 25]
-    requires { ⌜ (from ≤ to) × (to ≤ 25) ⌝ }
-    ensures { λ r. ⌜ r ≡ inSlots (drop from (take to events)) ⌝ }
+fn shifted(events: &[u8], from: usize, to: usize) -> [u8; 200]
+    requires { ⌜ (length (now events) ≡ 200) × (from ≤ to) × (to ≤ 25) ⌝ }
+    ensures { λ r. ⌜ r ≡ inSlots (drop from (take to (slotsOf (now (events .entry))))) ⌝ }
 {
-    let mut slots = [crate::state::zero_event(); 25];
+    let mut slots = [0u8; 200];
     let mut i = from;
     while i < to {
-        let e = events[i];
-        slots[i - from] = e;
+        state::put_event(&mut slots, i - from, state::event_at(events, i));
         i += 1;
     }
     slots
 }
 
 // The answer where a pass found this of a context of `kept` events. At a selection all of them are used up.
-fn answered(found: Passed, kept: usize, selected: usize, events: [Event; 25]) -> Answer
+fn answered(found: Passed, kept: usize, selected: usize, events: [u8; 200]) -> Answer
     ensures { λ r. ⌜ r ≡ answerWith found kept selected events ⌝ }
 {
     let open = kept != 0;
@@ -79,14 +80,14 @@ fn used_up(selected: usize) -> usize
 // The context does not go on: it moves on to a new start, or closes.
 fn restart(
     table: &[u8],
-    map: &[u32],
+    map: &[u8],
     limit: u32,
-    events: [Event; 25],
+    events: &[u8],
     selected: usize,
     to: usize,
 ) -> Answer
-    requires { ⌜ Ready (now table) (now map) events to × ((1 ≤ to) × (selected ≤ to)) ⌝ }
-    ensures { λ r. ⌜ r ≡ restarted (decode (now (table .entry))) (now (map .entry)) limit (take to events) selected ⌝ }
+    requires { ⌜ Ready (now table) (mapNumbers (now map)) (now events) to × ((1 ≤ to) × (selected ≤ to)) ⌝ }
+    ensures { λ r. ⌜ r ≡ restarted (decode (now (table .entry))) (mapNumbers (now (map .entry))) limit (take to (slotsOf (now (events .entry)))) selected ⌝ }
 {
     let start = walk::first_start(table, map, limit, events, used_up(selected), to);
     let at = start.at;
@@ -96,17 +97,17 @@ fn restart(
 }
 
 // An event that is heard.
-pub fn heard(table: &[u8], map: &[u32], limit: u32, state: State, x: Event) -> Answer
-    requires { ⌜ ((whole (now table) ≡ true) × (length (now map) ≡ 496)) × ((wholeState state ≡ true) × EventRanges x) ⌝ }
-    ensures { λ r. ⌜ r ≡ answerOf (hear (decode (now (table .entry))) (now (map .entry)) limit (keptOf state) x) ⌝ }
+pub fn heard(table: &[u8], map: &[u8], limit: u32, state: State, x: Event) -> Answer
+    requires { ⌜ ((whole (now table) ≡ true) × (length (mapNumbers (now map)) ≡ 496)) × ((wholeState state ≡ true) × EventRanges x) ⌝ }
+    ensures { λ r. ⌜ r ≡ answerOf (hear (decode (now (table .entry))) (mapNumbers (now (map .entry))) limit (keptOf state) x) ⌝ }
 {
     let kept = state.kept;
     let selected = state.selected;
     let mut events = state.events;
-    events[kept] = x;
+    state::put_event(&mut events, kept, x);
     let to = kept + 1;
-    match walk::pass(table, map, limit, events, 0, to) {
-        Passed::No => restart(table, map, limit, events, selected, to),
+    match walk::pass(table, map, limit, &events, 0, to) {
+        Passed::No => restart(table, map, limit, &events, selected, to),
         Passed::Prefix => answered(Passed::Prefix, to, selected, events),
         Passed::Chosen(p) => answered(Passed::Chosen(p), to, selected, events),
     }

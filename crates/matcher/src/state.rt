@@ -1,6 +1,8 @@
 // The matcher's state, by value. Between calls it keeps the events of the open context and nothing else.
 ghost use mathlib.Core.Path.{_≡_};
-ghost use Rattle.matcher.specs.State.{eventWhole, eventZero, slotWhole, slotAt, marksWhole, wholeState, freshState, zeroEvent};
+ghost use Prim.Native.Nat.{_+_, _*_, _-_, _≤_};
+ghost use lib.ListN.{length};
+ghost use Rattle.matcher.specs.State.{eventIn, putEvent, eventWhole, usedWhole, byteZero, slotsWhole, marksWhole, wholeState, freshState};
 ghost use Rattle.words.specs.Runs.{every};
 use model::events::Event;
 
@@ -10,8 +12,9 @@ pub struct State {
     // How many of them lie at or before the last event at which anything was selected.
     pub selected: usize,
     pub open: bool,
-    // One slot more than a context keeps. Those that are not used are zero, so that equal contexts are equal states.
-    pub events: [Event; 25],
+    // 25 slots of 8 bytes, one slot more than a context keeps: code, detail, state and time, the least significant byte
+    // first. Those that are not used are zero, so that equal contexts are equal states.
+    pub events: [u8; 200],
 }
 
 impl State {
@@ -42,21 +45,39 @@ impl State {
             kept: 0,
             selected: 0,
             open: false,
-            events: [zero_event(); 25],
+            events: [0; 200],
         }
     }
 }
 
-// What an unused slot holds.
-pub fn zero_event() -> Event
-    ensures { λ r. ⌜ r ≡ zeroEvent ⌝ }
+// The event in slot j.
+pub fn event_at(events: &[u8], j: usize) -> Event
+    requires { ⌜ 8 * j + 8 ≤ length (now events) ⌝ }
+    ensures { λ r. ⌜ r ≡ eventIn (now (events .entry)) j ⌝ }
 {
+    let at = 8 * j;
     Event {
-        code: 0,
-        detail: 0,
-        time: 0,
-        state: 0,
+        code: events[at],
+        detail: events[at + 1],
+        time: keyboard::number_from(events, at + 4),
+        state: words::word_at(events, 4 * j + 1),
     }
+}
+
+// Stores an event in slot j.
+pub fn put_event(out: &mut [u8], j: usize, x: Event)
+    requires { ⌜ 8 * j + 8 ≤ length (now out) ⌝ }
+    ensures { λ r. ⌜ now (out .exit) ≡ putEvent (now (out .entry)) j x ⌝ }
+{
+    let at = 8 * j;
+    out[at] = x.code;
+    out[at + 1] = x.detail;
+    out[at + 2] = (x.state % 256) as u8;
+    out[at + 3] = (x.state / 256) as u8;
+    out[at + 4] = (x.time % 256) as u8;
+    out[at + 5] = (x.time / 256 % 256) as u8;
+    out[at + 6] = (x.time / 65536 % 256) as u8;
+    out[at + 7] = (x.time / 16777216) as u8;
 }
 
 // An event with the ranges of one that was read from a record.
@@ -66,30 +87,40 @@ fn event_whole(e: Event) -> bool
     (2 <= e.code) & (e.code <= 34) & (e.state < 8192) & ((3 < e.code) | (8 <= e.detail))
 }
 
-fn event_zero(e: Event) -> bool
-    ensures { λ r. ⌜ r ≡ eventZero e ⌝ }
-{
-    (e.code == 0) & (e.detail == 0) & (e.time == 0) & (e.state == 0)
-}
-
-fn slot_whole(used: bool, e: Event) -> bool
-    ensures { λ r. ⌜ r ≡ slotWhole used e ⌝ }
-{
-    if used { event_whole(e) } else { event_zero(e) }
-}
-
-// Every slot holds an event of the context or, past them, zero.
-fn slots_whole(events: [Event; 25], kept: usize) -> bool
-    ensures { λ r. ⌜ r ≡ every (slotAt events kept) 0 25 ⌝ }
+// Whether every slot of the context holds such an event.
+fn used_whole(events: &[u8], kept: usize) -> bool
+    requires { ⌜ 8 * kept ≤ length (now events) ⌝ }
+    ensures { λ r. ⌜ r ≡ every (usedWhole (now (events .entry))) 0 kept ⌝ }
 {
     let mut whole = true;
     let mut i: usize = 0;
-    while i < 25 {
-        let e = events[i];
-        whole = whole & slot_whole(i < kept, e);
+    while i < kept {
+        whole = whole & event_whole(event_at(events, i));
         i += 1;
     }
     whole
+}
+
+// Whether n bytes from byte k on are zero. No early exit, so that the loop is compiled to vector instructions.
+fn bytes_zero(l: &[u8], k: usize, n: usize) -> bool
+    requires { ⌜ k + n ≤ length (now l) ⌝ }
+    ensures { λ r. ⌜ r ≡ every (byteZero (now (l .entry))) k n ⌝ }
+{
+    let mut clean = true;
+    let mut i: usize = 0;
+    while i < n {
+        clean = clean & (l[k + i] == 0);
+        i += 1;
+    }
+    clean
+}
+
+// Every slot holds an event of the context or, past them, zero.
+fn slots_whole(events: &[u8], kept: usize) -> bool
+    requires { ⌜ (length (now events) ≡ 200) × (kept ≤ 24) ⌝ }
+    ensures { λ r. ⌜ r ≡ slotsWhole (now (events .entry)) kept ⌝ }
+{
+    used_whole(events, kept) & bytes_zero(events, 8 * kept, 200 - 8 * kept)
 }
 
 fn marks_whole(kept: usize, selected: usize, open: bool) -> bool
@@ -103,7 +134,9 @@ fn marks_whole(kept: usize, selected: usize, open: bool) -> bool
 pub fn state_whole(s: State) -> bool
     ensures { λ r. ⌜ r ≡ wholeState s ⌝ }
 {
-    let events = s.events;
     let kept = s.kept;
-    marks_whole(kept, s.selected, s.open) & slots_whole(events, kept)
+    if !marks_whole(kept, s.selected, s.open) {
+        return false;
+    }
+    slots_whole(&s.events, kept)
 }

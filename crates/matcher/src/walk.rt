@@ -13,8 +13,11 @@ ghost use Rattle.model.specs.Counts.{expanded};
 ghost use Rattle.model.specs.Lists.{any};
 ghost use Rattle.model.specs.Matching.{hasType, readingOf};
 ghost use Rattle.machine.specs.Kept.{longestEnd};
+ghost use Rattle.keyboard.specs.Maps.{mapNumbers};
+ghost use Rattle.matcher.specs.State.{slotsOf};
 ghost use Rattle.matcher.specs.Walk.{eventMeets, detailAsked, elementOf, fitsAfter, walked, sizeIn, Ready, passed, passedIn, eventHas};
 use crate::reader;
+use crate::state;
 use model::events::Event;
 
 // How a stretch of events and the sequence of a production compare.
@@ -43,9 +46,9 @@ pub struct Start {
 }
 
 // Whether an event has the detail that is asked for: of a key, the keysym under the keyboard map.
-fn detail_met(map: &[u32], set: u16, clear: u16, colon: bool, value: u32, x: Event) -> bool
-    requires { ⌜ (length (now map) ≡ 496) × EventRanges x ⌝ }
-    ensures { λ r. ⌜ r ≡ detailAsked (now (map .entry)) set clear colon value x ⌝ }
+fn detail_met(map: &[u8], set: u16, clear: u16, colon: bool, value: u32, x: Event) -> bool
+    requires { ⌜ (length (mapNumbers (now map)) ≡ 496) × EventRanges x ⌝ }
+    ensures { λ r. ⌜ r ≡ detailAsked (mapNumbers (now (map .entry))) set clear colon value x ⌝ }
 {
     if x.code <= 3 {
         let pair = keyboard::pair_at(map, x.detail);
@@ -55,9 +58,9 @@ fn detail_met(map: &[u32], set: u16, clear: u16, colon: bool, value: u32, x: Eve
 }
 
 // Whether an event meets the test and the detail of event i of a table.
-fn event_meets(table: &[u8], map: &[u32], i: usize, x: Event) -> bool
-    requires { ⌜ ((whole (now table) ≡ true) × (i < eventCount (now table))) × ((length (now map) ≡ 496) × EventRanges x) ⌝ }
-    ensures { λ r. ⌜ r ≡ eventMeets (now (map .entry)) (eventAt (now (table .entry)) i) x ⌝ }
+fn event_meets(table: &[u8], map: &[u8], i: usize, x: Event) -> bool
+    requires { ⌜ ((whole (now table) ≡ true) × (i < eventCount (now table))) × ((length (mapNumbers (now map)) ≡ 496) × EventRanges x) ⌝ }
+    ensures { λ r. ⌜ r ≡ eventMeets (mapNumbers (now (map .entry))) (eventAt (now (table .entry)) i) x ⌝ }
 {
     let set = reader::set_at(table, i);
     let clear = reader::clear_at(table, i);
@@ -81,15 +84,15 @@ fn event_meets(table: &[u8], map: &[u32], i: usize, x: Event) -> bool
 // Whether event x fits element k of event i of a table. `before` is the time of the event two before it.
 fn element_fits(
     table: &[u8],
-    map: &[u32],
+    map: &[u8],
     limit: u32,
     i: usize,
     k: usize,
     before: u32,
     x: Event,
 ) -> bool
-    requires { ⌜ ((whole (now table) ≡ true) × (i < eventCount (now table))) × ((length (now map) ≡ 496) × EventRanges x) ⌝ }
-    ensures { λ r. ⌜ r ≡ fitsAfter (now (map .entry)) limit before (elementOf (eventAt (now (table .entry)) i) k) x ⌝ }
+    requires { ⌜ ((whole (now table) ≡ true) × (i < eventCount (now table))) × ((length (mapNumbers (now map)) ≡ 496) × EventRanges x) ⌝ }
+    ensures { λ r. ⌜ r ≡ fitsAfter (mapNumbers (now (map .entry))) limit before (elementOf (eventAt (now (table .entry)) i) k) x ⌝ }
 {
     let code = reader::code_at(table, i);
     let count = reader::count_at(table, i);
@@ -129,16 +132,16 @@ fn two_before(j: usize, k: usize) -> usize
 // Events from..to against the elements of n events of a table. Most productions are ruled out by the first code.
 fn follow(
     table: &[u8],
-    map: &[u32],
+    map: &[u8],
     limit: u32,
     first: usize,
     n: usize,
-    events: [Event; 25],
+    events: &[u8],
     from: usize,
     to: usize,
 ) -> Followed
-    requires { ⌜ Ready (now table) (now map) events to × (from ≤ to) × (first + n ≤ eventCount (now table)) ⌝ }
-    ensures { λ r. ⌜ r ≡ walked (now (map .entry)) limit none none (expanded (run (eventAt (now (table .entry))) first n)) (drop from (take to events)) ⌝ }
+    requires { ⌜ Ready (now table) (mapNumbers (now map)) (now events) to × (from ≤ to) × (first + n ≤ eventCount (now table)) ⌝ }
+    ensures { λ r. ⌜ r ≡ walked (mapNumbers (now (map .entry))) limit none none (expanded (run (eventAt (now (table .entry))) first n)) (drop from (take to (slotsOf (now (events .entry))))) ⌝ }
 {
     let last = first + n;
     let mut i = first;
@@ -148,9 +151,9 @@ fn follow(
         if last <= i {
             return Followed::No;
         }
-        let x = events[j];
+        let x = state::event_at(events, j);
         let at = two_before(j, k);
-        let b = events[at];
+        let b = state::event_at(events, at);
         if !element_fits(table, map, limit, i, k, b.time, x) {
             return Followed::No;
         }
@@ -178,46 +181,33 @@ fn starts(table: &[u8], i: usize, code: u8) -> bool
     counts::element_code(own, count, 0) == code
 }
 
-// Events from..to against every production, in order. One whose first element the first event does not fit is passed over
-// at once, by its code alone where that is another.
-pub fn pass(
-    table: &[u8],
-    map: &[u32],
-    limit: u32,
-    events: [Event; 25],
-    from: usize,
-    to: usize,
-) -> Passed
-    requires { ⌜ Ready (now table) (now map) events to × (from < to) ⌝ }
-    ensures { λ r. ⌜ r ≡ passed (decode (now (table .entry))) (now (map .entry)) limit (drop from (take to events)) ⌝ }
+// Events from..to against every production, in order. One whose first element has another code than the first event is
+// passed over at once.
+pub fn pass(table: &[u8], map: &[u8], limit: u32, events: &[u8], from: usize, to: usize) -> Passed
+    requires { ⌜ Ready (now table) (mapNumbers (now map)) (now events) to × (from < to) ⌝ }
+    ensures { λ r. ⌜ r ≡ passed (decode (now (table .entry))) (mapNumbers (now (map .entry))) limit (drop from (take to (slotsOf (now (events .entry))))) ⌝ }
 {
     let n = tables::read::production_count(table);
-    let e = events[from];
-    let code = e.code;
+    let code = state::event_at(events, from).code;
     let mut seen = false;
     let mut at: usize = 0;
     let mut p: usize = 0;
     while p < n {
         let size = tables::read::production_events(table, p);
         if starts(table, at, code) {
-            if element_fits(table, map, limit, at, 0, e.time, e) {
-                match follow(table, map, limit, at, size, events, from, to) {
-                    Followed::Whole => {
-                        return Passed::Chosen(p);
-                    }
-                    Followed::Prefix => {
-                        seen = true;
-                        at += size;
-                        p += 1;
-                    }
-                    Followed::No => {
-                        at += size;
-                        p += 1;
-                    }
+            match follow(table, map, limit, at, size, events, from, to) {
+                Followed::Whole => {
+                    return Passed::Chosen(p);
                 }
-            } else {
-                at += size;
-                p += 1;
+                Followed::Prefix => {
+                    seen = true;
+                    at += size;
+                    p += 1;
+                }
+                Followed::No => {
+                    at += size;
+                    p += 1;
+                }
             }
         } else {
             at += size;
@@ -230,14 +220,14 @@ pub fn pass(
 // The smallest start from `from` on at which the events up to `to` read as a prefix, or `to`.
 pub fn first_start(
     table: &[u8],
-    map: &[u32],
+    map: &[u8],
     limit: u32,
-    events: [Event; 25],
+    events: &[u8],
     from: usize,
     to: usize,
 ) -> Start
-    requires { ⌜ Ready (now table) (now map) events to × (from ≤ to) ⌝ }
-    ensures { λ r. ⌜ (r .at ≤ to) × (drop (r .at) (take to events) ≡ longestEnd (readingOf (decode (now (table .entry))) (now (map .entry)) limit) (drop from (take to events))) × (r .found ≡ passedIn (decode (now (table .entry))) (now (map .entry)) limit (drop (r .at) (take to events))) ⌝ }
+    requires { ⌜ Ready (now table) (mapNumbers (now map)) (now events) to × (from ≤ to) ⌝ }
+    ensures { λ r. ⌜ (r .at ≤ to) × (drop (r .at) (take to (slotsOf (now (events .entry)))) ≡ longestEnd (readingOf (decode (now (table .entry))) (mapNumbers (now (map .entry))) limit) (drop from (take to (slotsOf (now (events .entry)))))) × (r .found ≡ passedIn (decode (now (table .entry))) (mapNumbers (now (map .entry))) limit (drop (r .at) (take to (slotsOf (now (events .entry)))))) ⌝ }
 {
     let mut at = from;
     while at < to {

@@ -1,64 +1,49 @@
 -- `matcher::state::slots_whole` meets its contract.
-use Prim.Native.Nat.{_≤_, _-_}
 use native.Mathlib.Omega.{arith}
 use native.Mathlib.Nat.{zero-add}
-use mathlib.Core.Path.{_≡_, refl, ap, ap₂, _∙_}
-use mathlib.Core.Bool.{_&&_}
+use mathlib.Core.Path.{_≡_, ap₂}
+use mathlib.Core.Bool.{true, _&&_}
+use denote.Ref.{now}
 use Rattle.words.specs.Runs.{every}
-use Rattle.words.proofs.RunLaws.{every-more}
-use Rattle.matcher.specs.State.{slotAt}
+use Rattle.words.proofs.RunLaws.{every-all}
+use Rattle.matcher.specs.State.{lowBytes, slotsWhole}
+use Rattle.matcher.proofs.SlotLaws.{low-bytes}
 use borrow.Author.Needs.{needs}
 use Rattle.matcher.proofs.state.slots_whole.Statement.{statement}
 use Rattle.matcher.proofs.state.slots_whole.Tie as tie
 
-abbrev Inv-loop : tie.InvT-loop
-Inv-loop kept events whole₀ i₀ whole i = (i ≤ 25) × (whole ≡ every (slotAt events kept) 0 i)
+used-whole-requires : tie.Need-used-whole-requires
+used-whole-requires c κs = search needs
 
-abbrev μ-loop : tie.MeasureT-loop
-μ-loop kept events whole₀ i₀ whole i = 25 - i
+mul-bytes-zero : tie.Need-mul-bytes-zero
+mul-bytes-zero c = search needs
 
-loop-holds : tie.Need-loop-holds Inv-loop μ-loop
-unfolding every
-loop-holds c = (omega arith, refl)
+mul-bytes-zero-2 : tie.Need-mul-bytes-zero-2
+mul-bytes-zero-2 c = search needs
 
-mul-e : tie.Need-mul-e Inv-loop μ-loop
-mul-e c = omega arith
+sub-bytes-zero : tie.Need-sub-bytes-zero
+sub-bytes-zero c = search needs
 
-array-copy-out-e : tie.Need-array-copy-out-e Inv-loop μ-loop
-array-copy-out-e c = omega arith
+bytes-zero-requires : tie.Need-bytes-zero-requires
+bytes-zero-requires c κs = search needs
 
-slot-whole-requires : tie.Need-slot-whole-requires Inv-loop μ-loop
-slot-whole-requires c κs = search needs
-
-add-i : tie.Need-add-i Inv-loop μ-loop
-add-i c = omega arith
-
-loop-less : tie.Need-loop-less Inv-loop μ-loop
-loop-less c = omega arith
-
-loop-again : tie.Need-loop-again Inv-loop μ-loop
-unfolding slotAt
-loop-again c =
-    let v = c .before .before .before .loop in
-    (omega arith, rw (every-more, zero-add) (ap₂ _&&_ (v .inv .1) (c .slot-whole .ensures)))
-
-returns : tie.Need-returns Inv-loop μ-loop
+returns : tie.Need-returns
+unfolding slotsWhole
 returns c =
-    let a = c .before .before .args in
-    let q : c .before .loop .i ≡ 25 = omega arith in
-    c .before .loop .inv .1 ∙ ap (every (slotAt (a .t1) (a .kept)) 0) q
+    let a = c .before .before .before .args in
+    let l = now (a .events) in
+    let p = c .before .before .before .pre in
+    let e : every (lowBytes l) 0 (a .kept) ≡ true
+    = every-all (lowBytes l) 0 (a .kept) (λ i h. rw zero-add (low-bytes l i (λ k b. omega (arith, c .before .before .shared-slice-known .given k)) (omega arith))) in
+    rw e (ap₂ _&&_ (c .before .used-whole .ensures) (c .bytes-zero .ensures))
 
 pub slots-whole-spec : {M : Type 1} → statement M
 slots-whole-spec =
     tie.close
     (tie.spec
-    Inv-loop
-    μ-loop
-    loop-holds
-    mul-e
-    array-copy-out-e
-    slot-whole-requires
-    add-i
-    loop-less
-    loop-again
+    used-whole-requires
+    mul-bytes-zero
+    mul-bytes-zero-2
+    sub-bytes-zero
+    bytes-zero-requires
     returns)

@@ -10,6 +10,7 @@ use Rattle.model.specs.declared.events.Event.{Event}
 use Rattle.model.specs.Modifiers.{stateMeets}
 use Rattle.tables.specs.Reading.{isFlag, eventAt}
 use Rattle.matcher.specs.Walk.{detailAsked, flagsIn}
+use Rattle.keyboard.specs.Maps.{mapNumbers}
 use Rattle.matcher.proofs.TableFacts.{table-facts}
 use Rattle.matcher.proofs.EventLaws.{meets-not, meets-any, meets-detail}
 use borrow.Author.Needs.{needs}
@@ -61,7 +62,7 @@ state-meets-requires c κs =
 returns : tie.Need-returns
 returns c =
     let a = c .before .before .before .before .before .before .before .before .args in
-    sym (meets-not (now (a .map)) (now (a .table)) (a .i) (a .x) (c .before .before .before .before .before .before .before .before .pre .1 .1)
+    sym (meets-not (mapNumbers (now (a .map))) (now (a .table)) (a .i) (a .x) (c .before .before .before .before .before .before .before .before .pre .1 .1)
     (sym (state-met c.before) ∙ not-true _ (c .if1 .taken)))
 
 is-flag-requires-2 : tie.Need-is-flag-requires-2
@@ -70,7 +71,7 @@ is-flag-requires-2 c κs = search needs
 returns-2 : tie.Need-returns-2
 returns-2 c =
     let a = c .before .before .before .before .before .before .before .before .before .before .args in
-    sym (meets-any (now (a .map)) (now (a .table)) (a .i) (a .x) (c .before .before .before .before .before .before .before .before .before .before .pre .1 .1)
+    sym (meets-any (mapNumbers (now (a .map))) (now (a .table)) (a .i) (a .x) (c .before .before .before .before .before .before .before .before .before .before .pre .1 .1)
     (sym (state-met (c .before .before .before)) ∙ not-false _ (c .before .before .if1 .left))
     (sym (c .before .is-flag2 .ensures ∙ ap (isFlag 4) (c .before .before .before .before .before .flags-at .ensures)) ∙ not-true _ (c .if2 .taken)))
 
@@ -92,9 +93,9 @@ returns-3 c =
     let l = now (a .table) in
     let f = c .before .before .before .before .before .before .before .before .flags-at .ensures in
     c .detail-met .ensures
-    ∙ asked (now (a .map)) (a .x) (c .before .before .before .before .before .before .before .before .before .before .set-at .ensures) (c .before .before .before .before .before .before .before .before .before .clear-at .ensures)
+    ∙ asked (mapNumbers (now (a .map))) (a .x) (c .before .before .before .before .before .before .before .before .before .before .set-at .ensures) (c .before .before .before .before .before .before .before .before .before .clear-at .ensures)
     (c .before .before .is-flag3 .ensures ∙ ap (isFlag 1) f) (c .before .value-at .ensures)
-    ∙ meets-detail (now (a .map)) l (a .i) (a .x) (c .before .before .before .before .before .before .before .before .before .before .before .before .before .pre .1 .1)
+    ∙ meets-detail (mapNumbers (now (a .map))) l (a .i) (a .x) (c .before .before .before .before .before .before .before .before .before .before .before .before .before .pre .1 .1)
     (sym (state-met (c .before .before .before .before .before .before)) ∙ not-false _ (c .before .before .before .before .before .if1 .left))
     (sym (c .before .before .before .before .is-flag2 .ensures ∙ ap (isFlag 4) f) ∙ not-false _ (c .before .before .before .if2 .left))
 

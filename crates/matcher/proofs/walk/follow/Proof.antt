@@ -1,83 +1,102 @@
 -- `matcher::walk::follow` meets its contract.
 use Prim.Native.Nat.{_-_, _<_}
 use native.Mathlib.Omega.{arith}
-use mathlib.Core.Path.{_≡_, sym, _∙_}
+use mathlib.Core.Path.{_≡_, sym, ap₂, _∙_}
 use denote.Ref.{now}
 use borrow.Author.Tests.{not-true, not-false}
-use lib.ListN.{length}
-use Rattle.tables.specs.Reading.{eventCount}
+use lib.ListN.{length, getD}
+use Rattle.model.specs.declared.events.Event.{Event}
+use Rattle.tables.specs.Reading.{eventCount, eventAt}
+use Rattle.keyboard.specs.Maps.{mapNumbers}
+use Rattle.matcher.specs.State.{zeroEvent, slotsOf}
+use Rattle.matcher.specs.Walk.{elementOf, fitsAfter}
+use Rattle.matcher.proofs.SlotLaws.{length-slots, in-slot}
 use Rattle.matcher.proofs.TableFacts.{table-facts}
 use Rattle.matcher.proofs.FollowLaws.{Walks, walks-start, walks-over, walks-no, walks-on, walks-turn, walks-prefix, walks-whole}
 use Rattle.matcher.proofs.walk.follow.Statement.{statement}
 use Rattle.matcher.proofs.walk.follow.Tie as tie
 
 abbrev Inv-loop : tie.InvT-loop
-Inv-loop table map limit first n from to events last i₀ k₀ j₀ i k j = Walks map limit table first n events from to i k j
+Inv-loop table map limit first n events from to last i₀ k₀ j₀ i k j = Walks (mapNumbers map) limit table first n (slotsOf events) from to i k j
 
 abbrev μ-loop : tie.MeasureT-loop
-μ-loop table map limit first n from to events last i₀ k₀ j₀ i k j = to - j
+μ-loop table map limit first n events from to last i₀ k₀ j₀ i k j = to - j
 
 add-last : tie.Need-add-last Inv-loop μ-loop
 add-last c =
-    let f = table-facts _ (c .before .before .pre .0 .isWhole) in
+    let f = table-facts _ (c .before .before .before .pre .0 .isWhole) in
     omega (arith, f .events)
 
 loop-holds : tie.Need-loop-holds Inv-loop μ-loop
 loop-holds c =
-    let a = c .before .before .args in
-    let l : length (a .t6) ≡ 25 = c .before .before .good .1 .1 .1 .1 .1 .0 .1 .0 .1 in
-    walks-start (now (a .map)) (a .limit) (now (a .table)) (a .first) (a .n) (a .t6) (a .from) (a .to) l (c .before .before .pre .1)
+    let a = c .before .before .before .args in
+    let l : length (slotsOf (now (a .events))) ≡ 25 = length-slots (now (a .events)) in
+    walks-start (mapNumbers (now (a .map))) (a .limit) (now (a .table)) (a .first) (a .n) (slotsOf (now (a .events))) (a .from) (a .to) l (c .before .before .before .pre .1)
 
 returns : tie.Need-returns Inv-loop μ-loop
 returns c =
-    let a = c .before .before .before .before .before .args in
+    let a = c .before .before .before .before .before .before .args in
     let v = c .before .before .loop in
-    sym (walks-over (now (a .map)) (a .limit) (now (a .table)) (a .first) (a .n) (a .t6) (a .from) (a .to) (c .before .before .before .before .before .pre .0 .room) (v .i) (v .k) (v .j) (v .inv) (c .if1 .taken) (c .before .loop-test .taken))
+    sym (walks-over (mapNumbers (now (a .map))) (a .limit) (now (a .table)) (a .first) (a .n) (slotsOf (now (a .events))) (a .from) (a .to) (c .before .before .before .before .before .before .pre .0 .room) (v .i) (v .k) (v .j) (v .inv) (c .if1 .taken) (c .before .loop-test .taken))
 
-mul-x : tie.Need-mul-x Inv-loop μ-loop
-mul-x c = omega (arith, c .before .before .before .before .before .pre .0 .room)
-
-array-copy-out-x : tie.Need-array-copy-out-x Inv-loop μ-loop
-array-copy-out-x c = omega (arith, c .before .before .before .before .before .pre .0 .room)
+event-at-requires : tie.Need-event-at-requires Inv-loop μ-loop
+event-at-requires c κs = omega (arith, c .before .before .before .before .before .before .pre .0 .room, c .before .before .before .before .before .before .pre .0 .long, c .before .loop-test .taken)
 
 two-before-requires : tie.Need-two-before-requires Inv-loop μ-loop
 two-before-requires c κs = omega (arith, c .before .before .before .loop .inv .started)
 
-mul-b : tie.Need-mul-b Inv-loop μ-loop
-mul-b c = omega (arith, c .before .before .before .before .before .before .before .pre .0 .room, c .two-before .ensures .0)
+event-at-requires-2 : tie.Need-event-at-requires-2 Inv-loop μ-loop
+event-at-requires-2 c κs = omega (arith, c .before .before .before .before .before .before .before .before .pre .0 .room, c .before .before .before .before .before .before .before .before .pre .0 .long, c .before .before .before .loop-test .taken, c .two-before .ensures .0)
 
-array-copy-out-b : tie.Need-array-copy-out-b Inv-loop μ-loop
-array-copy-out-b c = omega (arith, c .before .before .before .before .before .before .before .pre .0 .room, c .two-before .ensures .0)
+-- the event that was read is that in slot j
+read-is : (c : tie.After-event-at Inv-loop μ-loop) → c .event-at .result ≡ getD (slotsOf (now (c .before .before .before .before .before .before .before .args .events))) (c .before .before .before .loop .j) zeroEvent
+read-is c =
+    let m : c .before .before .before .loop .j < 25 = omega (arith, c .before .before .before .before .before .before .before .pre .0 .room, c .before .before .loop-test .taken) in
+    c .event-at .ensures ∙ in-slot (now (c .before .before .before .before .before .before .before .args .events)) (c .before .before .before .loop .j) m
+
+-- whether it fits, by the slots
+fit-is : (c : tie.After-element-fits Inv-loop μ-loop)
+    → c .element-fits .result
+    ≡ fitsAfter (mapNumbers (now (c .before .before .before .before .before .before .before .before .before .before .args .map))) (c .before .before .before .before .before .before .before .before .before .before .args .limit)
+    (getD (slotsOf (now (c .before .before .before .before .before .before .before .before .before .before .args .events))) (c .before .before .two-before .result) zeroEvent .time)
+    (elementOf (eventAt (now (c .before .before .before .before .before .before .before .before .before .before .args .table)) (c .before .before .before .before .before .before .loop .i)) (c .before .before .before .before .before .before .loop .k))
+    (getD (slotsOf (now (c .before .before .before .before .before .before .before .before .before .before .args .events))) (c .before .before .before .before .before .before .loop .j) zeroEvent)
+fit-is c =
+    let a = c .before .before .before .before .before .before .before .before .before .before .args in
+    let m : c .before .before .two-before .result < 25 = omega (arith, c .before .before .before .before .before .before .before .before .before .before .pre .0 .room, c .before .before .before .before .before .loop-test .taken, c .before .before .two-before .ensures .0) in
+    c .element-fits .ensures
+    ∙ ap₂ (λ (b x : Event). fitsAfter (mapNumbers (now (a .map))) (a .limit) (b .time) (elementOf (eventAt (now (a .table)) (c .before .before .before .before .before .before .loop .i)) (c .before .before .before .before .before .before .loop .k)) x)
+    (c .before .event-at2 .ensures ∙ in-slot (now (a .events)) (c .before .before .two-before .result) m) (read-is (c .before .before .before))
 
 element-fits-requires : tie.Need-element-fits-requires Inv-loop μ-loop
 element-fits-requires c κs =
-    let p = c .before .before .before .before .before .before .before .before .pre in
+    let p = c .before .before .before .before .before .before .before .before .before .pre in
     let v = c .before .before .before .before .before .loop in
-    let h : v .i < eventCount (now (c .before .before .before .before .before .before .before .before .args .table)) = omega (arith, p .2) in
-    ((p .0 .isWhole, h), (p .0 .mapped, p .0 .ranges (v .j) (c .before .before .before .before .loop-test .taken)))
+    let h : v .i < eventCount (now (c .before .before .before .before .before .before .before .before .before .args .table)) = omega (arith, p .2) in
+    ((p .0 .isWhole, h), (p .0 .mapped, rw (read-is (c .before .before)) (p .0 .ranges (v .j) (c .before .before .before .before .loop-test .taken))))
 
 returns-2 : tie.Need-returns-2 Inv-loop μ-loop
 returns-2 c =
-    let a = c .before .before .before .before .before .before .before .before .before .before .args in
+    let a = c .before .before .before .before .before .before .before .before .before .before .before .args in
     let v = c .before .before .before .before .before .before .before .loop in
-    sym (walks-no (now (a .map)) (a .limit) (now (a .table)) (a .first) (a .n) (a .t6) (a .from) (a .to) (c .before .before .before .before .before .before .before .before .before .before .pre .0 .room) (v .i) (v .k) (v .j) (v .inv) (c .before .before .before .before .before .if1 .left) (c .before .before .before .before .before .before .loop-test .taken) (c .before .before .before .two-before .result) (c .before .before .before .two-before .ensures .1) (c .before .element-fits .result) (c .before .element-fits .ensures) (not-true _ (c .if2 .taken)))
+    sym (walks-no (mapNumbers (now (a .map))) (a .limit) (now (a .table)) (a .first) (a .n) (slotsOf (now (a .events))) (a .from) (a .to) (c .before .before .before .before .before .before .before .before .before .before .before .pre .0 .room) (v .i) (v .k) (v .j) (v .inv) (c .before .before .before .before .before .if1 .left) (c .before .before .before .before .before .before .loop-test .taken) (c .before .before .before .two-before .result) (c .before .before .before .two-before .ensures .1) (c .before .element-fits .result) (fit-is (c .before)) (not-true _ (c .if2 .taken)))
 
 add-j : tie.Need-add-j Inv-loop μ-loop
-add-j c = omega (arith, c .before .before .before .before .before .before .before .before .before .before .pre .0 .room)
+add-j c = omega (arith, c .before .before .before .before .before .before .before .before .before .before .before .pre .0 .room)
 
 add-k : tie.Need-add-k Inv-loop μ-loop
-add-k c = omega (arith, c .before .before .before .before .before .before .before .before .before .before .pre .0 .room, c .before .before .before .before .before .before .before .loop .inv .started)
+add-k c = omega (arith, c .before .before .before .before .before .before .before .before .before .before .before .pre .0 .room, c .before .before .before .before .before .before .before .loop .inv .started)
 
 size-at-requires : tie.Need-size-at-requires Inv-loop μ-loop
 size-at-requires c κs =
-    let p = c .before .before .before .before .before .before .before .before .before .before .pre in
+    let p = c .before .before .before .before .before .before .before .before .before .before .before .pre in
     let v = c .before .before .before .before .before .before .before .loop in
-    let h : v .i < eventCount (now (c .before .before .before .before .before .before .before .before .before .before .args .table)) = omega (arith, p .2) in
+    let h : v .i < eventCount (now (c .before .before .before .before .before .before .before .before .before .before .before .args .table)) = omega (arith, p .2) in
     (p .0 .isWhole, h)
 
 add-i : tie.Need-add-i Inv-loop μ-loop
 add-i c =
-    let p = c .before .before .before .before .before .before .before .before .before .before .before .before .pre in
+    let p = c .before .before .before .before .before .before .before .before .before .before .before .before .before .pre in
     let f = table-facts _ (p .0 .isWhole) in
     omega (arith, f .events, p .2, c .before .before .before .before .before .before .before .if1 .left)
 
@@ -86,30 +105,30 @@ loop-less c = omega (arith, c .before .before .before .before .before .before .b
 
 loop-again : tie.Need-loop-again Inv-loop μ-loop
 loop-again c =
-    let a = c .before .before .before .before .before .before .before .before .before .before .before .before .args in
+    let a = c .before .before .before .before .before .before .before .before .before .before .before .before .before .args in
     let v = c .before .before .before .before .before .before .before .before .before .loop in
-    walks-turn (now (a .map)) (a .limit) (now (a .table)) (a .first) (a .n) (a .t6) (a .from) (a .to) (c .before .before .before .before .before .before .before .before .before .before .before .before .pre .0 .room) (v .i) (v .k) (v .j) (v .inv) (c .before .before .before .before .before .before .before .if1 .left) (c .before .before .before .before .before .before .before .before .loop-test .taken) (c .before .before .before .before .before .two-before .result) (c .before .before .before .before .before .two-before .ensures .1) (c .before .before .before .element-fits .result) (c .before .before .before .element-fits .ensures) (not-false _ (c .before .before .if2 .left)) (c .if3 .taken ∙ c .before .size-at .ensures)
+    walks-turn (mapNumbers (now (a .map))) (a .limit) (now (a .table)) (a .first) (a .n) (slotsOf (now (a .events))) (a .from) (a .to) (c .before .before .before .before .before .before .before .before .before .before .before .before .before .pre .0 .room) (v .i) (v .k) (v .j) (v .inv) (c .before .before .before .before .before .before .before .if1 .left) (c .before .before .before .before .before .before .before .before .loop-test .taken) (c .before .before .before .before .before .two-before .result) (c .before .before .before .before .before .two-before .ensures .1) (c .before .before .before .element-fits .result) (fit-is (c .before .before .before)) (not-false _ (c .before .before .if2 .left)) (c .if3 .taken ∙ c .before .size-at .ensures)
 
 loop-less-2 : tie.Need-loop-less-2 Inv-loop μ-loop
 loop-less-2 c = omega (arith, c .before .before .before .before .before .before .before .before .loop-test .taken)
 
 loop-again-2 : tie.Need-loop-again-2 Inv-loop μ-loop
 loop-again-2 c =
-    let a = c .before .before .before .before .before .before .before .before .before .before .before .before .args in
+    let a = c .before .before .before .before .before .before .before .before .before .before .before .before .before .args in
     let v = c .before .before .before .before .before .before .before .before .before .loop in
-    walks-on (now (a .map)) (a .limit) (now (a .table)) (a .first) (a .n) (a .t6) (a .from) (a .to) (c .before .before .before .before .before .before .before .before .before .before .before .before .pre .0 .room) (v .i) (v .k) (v .j) (v .inv) (c .before .before .before .before .before .before .before .if1 .left) (c .before .before .before .before .before .before .before .before .loop-test .taken) (c .before .before .before .before .before .two-before .result) (c .before .before .before .before .before .two-before .ensures .1) (c .before .before .before .element-fits .result) (c .before .before .before .element-fits .ensures) (not-false _ (c .before .before .if2 .left)) (λ z. c .if3 .left (z ∙ sym (c .before .size-at .ensures)))
+    walks-on (mapNumbers (now (a .map))) (a .limit) (now (a .table)) (a .first) (a .n) (slotsOf (now (a .events))) (a .from) (a .to) (c .before .before .before .before .before .before .before .before .before .before .before .before .before .pre .0 .room) (v .i) (v .k) (v .j) (v .inv) (c .before .before .before .before .before .before .before .if1 .left) (c .before .before .before .before .before .before .before .before .loop-test .taken) (c .before .before .before .before .before .two-before .result) (c .before .before .before .before .before .two-before .ensures .1) (c .before .before .before .element-fits .result) (fit-is (c .before .before .before)) (not-false _ (c .before .before .if2 .left)) (λ z. c .if3 .left (z ∙ sym (c .before .size-at .ensures)))
 
 returns-3 : tie.Need-returns-3 Inv-loop μ-loop
 returns-3 c =
-    let a = c .before .before .before .before .before .args in
+    let a = c .before .before .before .before .before .before .args in
     let v = c .before .before .loop in
-    sym (walks-prefix (now (a .map)) (a .limit) (now (a .table)) (a .first) (a .n) (a .t6) (a .from) (a .to) (c .before .before .before .before .before .pre .0 .room) (v .i) (v .k) (v .j) (v .inv) (c .before .loop-test .left) (c .if4 .taken))
+    sym (walks-prefix (mapNumbers (now (a .map))) (a .limit) (now (a .table)) (a .first) (a .n) (slotsOf (now (a .events))) (a .from) (a .to) (c .before .before .before .before .before .before .pre .0 .room) (v .i) (v .k) (v .j) (v .inv) (c .before .loop-test .left) (c .if4 .taken))
 
 returns-4 : tie.Need-returns-4 Inv-loop μ-loop
 returns-4 c =
-    let a = c .before .before .before .before .before .args in
+    let a = c .before .before .before .before .before .before .args in
     let v = c .before .before .loop in
-    sym (walks-whole (now (a .map)) (a .limit) (now (a .table)) (a .first) (a .n) (a .t6) (a .from) (a .to) (c .before .before .before .before .before .pre .0 .room) (v .i) (v .k) (v .j) (v .inv) (c .before .loop-test .left) (c .if4 .left))
+    sym (walks-whole (mapNumbers (now (a .map))) (a .limit) (now (a .table)) (a .first) (a .n) (slotsOf (now (a .events))) (a .from) (a .to) (c .before .before .before .before .before .before .pre .0 .room) (v .i) (v .k) (v .j) (v .inv) (c .before .loop-test .left) (c .if4 .left))
 
 pub follow-spec : {M : Type 1} → statement M
 follow-spec =
@@ -120,11 +139,9 @@ follow-spec =
     add-last
     loop-holds
     returns
-    mul-x
-    array-copy-out-x
+    event-at-requires
     two-before-requires
-    mul-b
-    array-copy-out-b
+    event-at-requires-2
     element-fits-requires
     returns-2
     add-j

@@ -1,0 +1,20 @@
+-- The keyboard map as it is lent: 496 numbers of four bytes each, the least significant first.
+use Prim.Native.Nat.{ℕ, _+_, _*_}
+use mathlib.Core.Bool.{cond}
+use mathlib.Core.List.{List, []}
+use lib.Dec.{eqb}
+use lib.ListN.{length, getD}
+use Rattle.words.specs.Runs.{run}
+use Rattle.model.specs.Limits.{mapLength}
+
+-- how many bytes a map has
+abbrev pub mapBytes : ℕ
+mapBytes = 1984
+
+-- the number that four bytes hold from a place on
+unfoldable pub numberFrom : List ℕ → ℕ → ℕ
+numberFrom l at = getD l at 0 + 256 * getD l (at + 1) 0 + 65536 * getD l (at + 2) 0 + 16777216 * getD l (at + 3) 0
+
+-- the numbers that the bytes of a map hold; of any other length of bytes none, which are not 496 numbers
+unfoldable pub mapNumbers : List ℕ → List ℕ
+mapNumbers l = cond (eqb (length l) mapBytes) (run (λ k. numberFrom l (4 * k)) 0 mapLength) []
