@@ -8,23 +8,27 @@ mod productions;
 
 use model::answers::Written;
 ghost use mathlib.Core.Path.{_≡_};
+ghost use Prim.Native.Nat.{_≤_};
 ghost use lib.ListN.{length};
+ghost use Rattle.model.specs.Numbers.{writtenLength};
 ghost use Rattle.printer.specs.Ready.{Ready};
 ghost use Rattle.printer.specs.Write.{textOf, written, writtenBytes};
 
 // The length of the text: what writing it into one byte returns.
 fn text_length(table: &[u8], first: &[u8], second: &[u8]) -> usize
     requires { ⌜ Ready (now table) (now first) (now second) ⌝ }
-    ensures { λ r. ⌜ r ≡ length (textOf (now (table .entry)) (now (first .entry)) (now (second .entry))) ⌝ }
+    ensures { λ r. ⌜ (r ≡ length (textOf (now (table .entry)) (now (first .entry)) (now (second .entry)))) × (r ≤ 377600000) ⌝ }
 {
     let mut none = [0u8; 1];
     productions::put_productions(&mut none, table, first, second)
 }
 
-// Writes the canonical text of a table over its texts at the start of the output.
+// Writes the canonical text of a table over its texts at the start of the output. Its length is at most 64 times 5,900,000,
+// a bound for one production, so that a caller may count with it.
 pub fn write(table: &[u8], first: &[u8], second: &[u8], out: &mut [u8]) -> Written
     ensures { λ r. ⌜ r ≡ written (now (table .entry)) (now (first .entry)) (now (second .entry)) (now (out .entry)) ⌝ }
     ensures { λ r. ⌜ now (out .exit) ≡ writtenBytes (now (table .entry)) (now (first .entry)) (now (second .entry)) (now (out .entry)) ⌝ }
+    ensures { λ r. ⌜ writtenLength r ≤ 377600000 ⌝ }
 {
     if table.len() < 5904 {
         return Written::Refused(1);

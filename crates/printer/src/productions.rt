@@ -53,7 +53,7 @@ fn put_production(
 // All productions, from the start of the output on.
 pub fn put_productions(out: &mut [u8], l: &[u8], first: &[u8], second: &[u8]) -> usize
     requires { ⌜ Ready (now l) (now first) (now second) ⌝ }
-    ensures { λ r. ⌜ Put (now (out .entry)) (now (out .exit)) 0 r (productionsText (now (first .entry)) (now (second .entry)) (run (productionAt (now (l .entry))) 0 (productionCount (now (l .entry))))) ⌝ }
+    ensures { λ r. ⌜ (Put (now (out .entry)) (now (out .exit)) 0 r (productionsText (now (first .entry)) (now (second .entry)) (run (productionAt (now (l .entry))) 0 (productionCount (now (l .entry)))))) × (r ≤ 377600000) ⌝ }
 {
     let n = tables::read::production_count(l);
     let mut next: usize = 0;

@@ -19,7 +19,8 @@ put-productions-requires c κs = search needs
 returns : tie.Need-returns
 returns c =
     let a = c .before .before .before .before .before .before .args in
-    omega (arith, c .before .put-productions .ensures .next, ap (λ (t : List ℕ). length t) (text-is (a .table .now) (a .first .now) (a .second .now)))
+    let q = c .before .put-productions .ensures in
+    (omega (arith, q .0 .next, ap (λ (t : List ℕ). length t) (text-is (a .table .now) (a .first .now) (a .second .now))), q .1)
 
 pub text-length-spec : {M : Type 1} → statement M
 text-length-spec =

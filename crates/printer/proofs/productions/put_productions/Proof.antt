@@ -60,7 +60,8 @@ returns : tie.Need-returns Inv-loop μ-loop
 returns c =
     let a = c .before .before .before .before .before .before .before .args in
     let n : c .before .loop .p ≡ productionCount (a .l .now) = omega (arith, c .before .before .production-count .ensures) in
-    put-as (ap (λ (k : ℕ). productionsText (a .first .now) (a .second .now) (run (productionAt (a .l .now)) 0 k)) n) (c .before .loop .inv .2)
+    let f : WholeFacts (a .l .now) = ready-facts (a .l .now) (a .first .now) (a .second .now) (c .before .before .before .before .before .before .before .pre) in
+    (put-as (ap (λ (k : ℕ). productionsText (a .first .now) (a .second .now) (run (productionAt (a .l .now)) 0 k)) n) (c .before .loop .inv .2), omega (arith, c .before .loop .inv .1, f .productions))
 
 pub put-productions-spec : {M : Type 1} → statement M
 put-productions-spec =

@@ -1,0 +1,103 @@
+// The library for C: each function takes numbers and byte slices, a slice being a pointer and a length. Any bytes may be
+// lent. include/glykorant.h declares them.
+mod answers;
+
+ghost use mathlib.Core.Path.{_≡_};
+ghost use Rattle.tables.specs.Layout.{tableLength};
+ghost use Rattle.compiler.specs.Compile.{compiledBytes};
+ghost use Rattle.merger.specs.Merge.{mergeAnswer, mergedBytes};
+ghost use Rattle.printer.specs.Write.{written, writtenBytes};
+ghost use Rattle.calls.specs.Answers.{productionsAnswer, callsAnswer, parametersAnswer, nameAnswer, parameterAnswer};
+ghost use Rattle.capi.specs.Answers.{compileAnswer, compiledWord, mergedWord, writtenWord, countedWord, locatedWord};
+
+// ---- Lengths
+
+#[no_mangle]
+pub extern "C" fn tt_table_length() -> usize
+    ensures { λ r. ⌜ r ≡ tableLength ⌝ }
+{
+    tables::TABLE_LENGTH
+}
+
+// ---- Tables
+
+#[no_mangle]
+pub extern "C" fn tt_compile(text: &[u8], table: &mut [u8]) -> u64
+    ensures { λ r. ⌜ r ≡ compiledWord (compileAnswer (now (text .entry)) (now (table .entry))) ⌝ }
+    ensures { λ r. ⌜ now (table .exit) ≡ compiledBytes (now (text .entry)) (now (table .entry)) ⌝ }
+{
+    answers::compiled_word(compiler::compile(text, table))
+}
+
+#[no_mangle]
+pub extern "C" fn tt_merge(old: &[u8], new: &[u8], out: &mut [u8]) -> u64
+    ensures { λ r. ⌜ r ≡ mergedWord (mergeAnswer (now (old .entry)) (now (new .entry)) (now (out .entry))) ⌝ }
+    ensures { λ r. ⌜ now (out .exit) ≡ mergedBytes (now (old .entry)) (now (new .entry)) (now (out .entry)) ⌝ }
+{
+    answers::merged_word(merger::merge(old, new, out))
+}
+
+#[no_mangle]
+pub extern "C" fn tt_write(table: &[u8], first: &[u8], second: &[u8], out: &mut [u8]) -> u64
+    ensures { λ r. ⌜ r ≡ writtenWord (written (now (table .entry)) (now (first .entry)) (now (second .entry)) (now (out .entry))) ⌝ }
+    ensures { λ r. ⌜ now (out .exit) ≡ writtenBytes (now (table .entry)) (now (first .entry)) (now (second .entry)) (now (out .entry)) ⌝ }
+{
+    answers::written_word(printer::write(table, first, second, out))
+}
+
+// ---- What a table has
+
+#[no_mangle]
+pub extern "C" fn tt_productions(table: &[u8]) -> u64
+    ensures { λ r. ⌜ r ≡ countedWord (productionsAnswer (now (table .entry))) ⌝ }
+{
+    answers::counted_word(calls::productions(table))
+}
+
+#[no_mangle]
+pub extern "C" fn tt_calls(table: &[u8], production: usize) -> u64
+    ensures { λ r. ⌜ r ≡ countedWord (callsAnswer (now (table .entry)) production) ⌝ }
+{
+    answers::counted_word(calls::call_count(table, production))
+}
+
+#[no_mangle]
+pub extern "C" fn tt_parameters(table: &[u8], production: usize, call: usize) -> u64
+    ensures { λ r. ⌜ r ≡ countedWord (parametersAnswer (now (table .entry)) production call) ⌝ }
+{
+    answers::counted_word(calls::parameter_count(table, production, call))
+}
+
+#[no_mangle]
+pub extern "C" fn tt_name(
+    table: &[u8],
+    first: &[u8],
+    second: &[u8],
+    production: usize,
+    call: usize,
+) -> u64
+    ensures { λ r. ⌜ r ≡ locatedWord (nameAnswer (now (table .entry)) (now (first .entry)) (now (second .entry)) production call) ⌝ }
+{
+    answers::located_word(calls::locate_name(table, first, second, production, call))
+}
+
+#[no_mangle]
+pub extern "C" fn tt_parameter(
+    table: &[u8],
+    first: &[u8],
+    second: &[u8],
+    production: usize,
+    call: usize,
+    parameter: usize,
+) -> u64
+    ensures { λ r. ⌜ r ≡ locatedWord (parameterAnswer (now (table .entry)) (now (first .entry)) (now (second .entry)) production call parameter) ⌝ }
+{
+    answers::located_word(calls::locate_parameter(
+        table,
+        first,
+        second,
+        production,
+        call,
+        parameter,
+    ))
+}
