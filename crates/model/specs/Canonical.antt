@@ -46,9 +46,9 @@ digitsIn base (suc fuel) v =
 unfoldable pub hexadecimal : ℕ → List ℕ
 hexadecimal v = bytes "0x" ++ digitsIn 16 8 v
 
--- "other numbers in decimal": at most 255
+-- "other numbers in decimal": a detail that a table holds has at most nine digits
 unfoldable pub decimal : ℕ → List ℕ
-decimal v = digitsIn 10 3 v
+decimal v = digitsIn 10 9 v
 
 -- ---- Modifiers
 

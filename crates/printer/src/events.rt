@@ -29,7 +29,7 @@ fn put_type(out: &mut [u8], at: usize, e: KeptEvent) -> usize
 
 fn put_count(out: &mut [u8], at: usize, n: u8) -> usize
     requires { ⌜ at ≤ 8900000000 ⌝ }
-    ensures { λ r. ⌜ (Put (now (out .entry)) (now (out .exit)) at r (countText n)) × (r ≤ at + 5) ⌝ }
+    ensures { λ r. ⌜ (Put (now (out .entry)) (now (out .exit)) at r (countText n)) × (r ≤ at + 11) ⌝ }
 {
     if n <= 1 {
         return at;

@@ -17,7 +17,7 @@ fn digit_byte(v: u32) -> u8
 
 // At most `fuel` digits. The digits before the last are those of the number without it.
 fn put_digits(out: &mut [u8], at: usize, base: u32, fuel: usize, v: u32) -> usize
-    requires { ⌜ (at ≤ 9000000000) × (2 ≤ base) × (base ≤ 16) × (fuel ≤ 8) ⌝ }
+    requires { ⌜ (at ≤ 9000000000) × (2 ≤ base) × (base ≤ 16) × (fuel ≤ 9) ⌝ }
     ensures { λ r. ⌜ (Put (now (out .entry)) (now (out .exit)) at r (digitsIn base fuel v)) × (r ≤ at + fuel) ⌝ }
 {
     if fuel == 0 {
@@ -32,9 +32,9 @@ fn put_digits(out: &mut [u8], at: usize, base: u32, fuel: usize, v: u32) -> usiz
 
 pub fn put_decimal(out: &mut [u8], at: usize, v: u32) -> usize
     requires { ⌜ at ≤ 9000000000 ⌝ }
-    ensures { λ r. ⌜ (Put (now (out .entry)) (now (out .exit)) at r (decimal v)) × (r ≤ at + 3) ⌝ }
+    ensures { λ r. ⌜ (Put (now (out .entry)) (now (out .exit)) at r (decimal v)) × (r ≤ at + 9) ⌝ }
 {
-    put_digits(out, at, 10, 3, v)
+    put_digits(out, at, 10, 9, v)
 }
 
 pub fn put_hexadecimal(out: &mut [u8], at: usize, v: u32) -> usize
