@@ -9,7 +9,7 @@ ghost use Rattle.words.specs.Words.{wordAt};
 ghost use Rattle.words.specs.Runs.{every, total};
 ghost use Rattle.tables.specs.Layout.{productionEventsAt, callParametersAt};
 ghost use Rattle.tables.specs.Whole.{whole};
-ghost use Rattle.tables.specs.Checks.{textWordsOk, countWordsOk, headerOk, sumsOk, restZero, productionsRest, testsRest, detailsRest, callsRest, parametersRest, unusedOk, eventWordsOk, eventOk, textOf, callWordsOk, callOk, parameterOk, parametersOk, sizeOf, sizeAt, productionOk, plainOk, entriesOk};
+ghost use Rattle.tables.specs.Checks.{textWordsOk, countWordsOk, headerOk, sumsOk, productionsRest, testsRest, detailsRest, callsRest, parametersRest, unusedOk, eventWordsOk, eventOk, textOf, callWordsOk, callOk, parameterOk, parametersOk, sizeOf, sizeAt, productionOk, plainOk, entriesOk};
 
 // ---- The header
 
@@ -62,52 +62,40 @@ fn sums_ok(l: &[u8]) -> bool
 
 // ---- Unused words
 
-fn rest_zero(l: &[u8], at: usize, capacity: usize, n: usize) -> bool
-    requires { ⌜ (n ≤ capacity) × (2 * (at + capacity) ≤ length (now l)) ⌝ }
-    ensures { λ r. ⌜ r ≡ restZero (now (l .entry)) at capacity n ⌝ }
-{
-    words::all_zero(l, at + n, capacity - n)
-}
-
 fn productions_rest(l: &[u8], n: usize) -> bool
     requires { ⌜ (5904 ≤ length (now l)) × (n ≤ 64) ⌝ }
     ensures { λ r. ⌜ r ≡ productionsRest (now (l .entry)) n ⌝ }
 {
-    rest_zero(l, 8, 64, n) & rest_zero(l, 72, 64, n)
+    words::zero_in_two(l, 8 + n, 72 + n, 64 - n)
 }
 
 fn tests_rest(l: &[u8], n: usize) -> bool
     requires { ⌜ (5904 ≤ length (now l)) × (n ≤ 256) ⌝ }
     ensures { λ r. ⌜ r ≡ testsRest (now (l .entry)) n ⌝ }
 {
-    rest_zero(l, 136, 256, n)
-        & rest_zero(l, 392, 256, n)
-        & rest_zero(l, 648, 256, n)
-        & rest_zero(l, 904, 256, n)
+    words::zero_in_four(l, 136 + n, 392 + n, 648 + n, 904 + n, 256 - n)
 }
 
+// The third section is given twice: there are three.
 fn details_rest(l: &[u8], n: usize) -> bool
     requires { ⌜ (5904 ≤ length (now l)) × (n ≤ 256) ⌝ }
     ensures { λ r. ⌜ r ≡ detailsRest (now (l .entry)) n ⌝ }
 {
-    rest_zero(l, 1160, 256, n) & rest_zero(l, 1416, 256, n) & rest_zero(l, 1672, 256, n)
+    words::zero_in_four(l, 1160 + n, 1416 + n, 1672 + n, 1672 + n, 256 - n)
 }
 
 fn calls_rest(l: &[u8], n: usize) -> bool
     requires { ⌜ (5904 ≤ length (now l)) × (n ≤ 128) ⌝ }
     ensures { λ r. ⌜ r ≡ callsRest (now (l .entry)) n ⌝ }
 {
-    rest_zero(l, 1928, 128, n)
-        & rest_zero(l, 2056, 128, n)
-        & rest_zero(l, 2184, 128, n)
-        & rest_zero(l, 2312, 128, n)
+    words::zero_in_four(l, 1928 + n, 2056 + n, 2184 + n, 2312 + n, 128 - n)
 }
 
 fn parameters_rest(l: &[u8], n: usize) -> bool
     requires { ⌜ (5904 ≤ length (now l)) × (n ≤ 256) ⌝ }
     ensures { λ r. ⌜ r ≡ parametersRest (now (l .entry)) n ⌝ }
 {
-    rest_zero(l, 2440, 256, n) & rest_zero(l, 2696, 256, n)
+    words::zero_in_two(l, 2440 + n, 2696 + n, 256 - n)
 }
 
 fn unused_ok(l: &[u8]) -> bool

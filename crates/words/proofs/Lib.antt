@@ -2,3 +2,4 @@ pub mod Bools
 pub mod Laws
 pub mod RunLaws
 pub mod Images
+pub mod Zeros

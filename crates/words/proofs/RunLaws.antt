@@ -48,6 +48,12 @@ unfolding every
 every-same f g s zero e = refl
 every-same f g s (suc n) e = rw (every-same f g s n (λ i h. e i (omega arith)), e n (omega arith))
 
+-- a test over one run, and over another from a different start
+pub every-shift : (f g : ℕ → Bool) (s r n : ℕ) → ((i : ℕ) → i < n → f (s + i) ≡ g (r + i)) → every f s n ≡ every g r n
+unfolding every
+every-shift f g s r zero e = refl
+every-shift f g s r (suc n) e = rw (every-shift f g s r n (λ i h. e i (omega arith)), e n (omega arith))
+
 pub every-add : (test : ℕ → Bool) (s n m : ℕ) → every test s (n + m) ≡ (every test s n && every test (s + n) m)
 unfolding every
 every-add test s n zero = rw add-zero (sym (and-true (every test s n)))

@@ -1,9 +1,10 @@
 // Words of 16 bits in lent bytes: two bytes each, the lower first.
 ghost use mathlib.Core.Path.{_≡_};
+ghost use mathlib.Core.Bool.{_&&_};
 ghost use Prim.Native.Nat.{_+_, _*_, _≤_, _<_};
 ghost use lib.ListN.{length};
 ghost use Rattle.words.specs.Words.{wordAt, putWord, cleared};
-ghost use Rattle.words.specs.Runs.{every, total, isZero};
+ghost use Rattle.words.specs.Runs.{every, total, isZero, fourZero};
 
 fn wide(b: u8) -> u16
     ensures { λ r. ⌜ (r ≡ b) × (r < 256) ⌝ }
@@ -38,19 +39,60 @@ pub fn clear(out: &mut [u8], n: usize)
     }
 }
 
-// Whether n words from word k on are 0. No early exit, so that the loop is compiled to vector instructions.
-pub fn all_zero(l: &[u8], k: usize, n: usize) -> bool
-    requires { ⌜ 2 * (k + n) ≤ length (now l) ⌝ }
-    ensures { λ r. ⌜ r ≡ every (isZero (now (l .entry))) k n ⌝ }
+// ---- Words that are 0
+
+// Whether n words from each of four places on are 0. The words are joined and tested once, with no early exit, so that the
+// loop is compiled to vector instructions, one `or` for eight words.
+fn four_zero(l: &[u8], a: usize, b: usize, c: usize, d: usize, n: usize) -> bool
+    requires { ⌜ ((2 * (a + n) ≤ length (now l)) × (2 * (b + n) ≤ length (now l))) × ((2 * (c + n) ≤ length (now l)) × (2 * (d + n) ≤ length (now l))) ⌝ }
+    ensures { λ r. ⌜ r ≡ every (fourZero (now (l .entry)) a b c d) 0 n ⌝ }
 {
-    let mut clean = true;
+    let mut joined: u16 = 0;
     let mut i: usize = 0;
     while i < n {
-        clean = clean & (word_at(l, k + i) == 0);
+        joined = joined
+            | (word_at(l, a + i) | word_at(l, b + i) | word_at(l, c + i) | word_at(l, d + i));
         i += 1;
     }
-    clean
+    joined == 0
 }
+
+// A multiple of 16 that is at least half of n and at most n. Two runs of so many words, one from the first of n
+// words on and one up to the last, cover all n, and neither leaves words over when sixteen are taken at a time.
+pub fn half(n: usize) -> usize
+    requires { ⌜ (16 ≤ n) × (n < 65536) ⌝ }
+    ensures { λ r. ⌜ (r ≤ n) × (n ≤ r + r) ⌝ }
+{
+    (n + 31) / 32 * 16
+}
+
+// Whether n words from each of four places on are 0.
+pub fn zero_in_four(l: &[u8], a: usize, b: usize, c: usize, d: usize, n: usize) -> bool
+    requires { ⌜ (((2 * (a + n) ≤ length (now l)) × (2 * (b + n) ≤ length (now l))) × ((2 * (c + n) ≤ length (now l)) × (2 * (d + n) ≤ length (now l)))) × (n < 65536) ⌝ }
+    ensures { λ r. ⌜ r ≡ (every (isZero (now (l .entry))) a n && every (isZero (now (l .entry))) b n && every (isZero (now (l .entry))) c n && every (isZero (now (l .entry))) d n) ⌝ }
+{
+    if n < 16 {
+        return four_zero(l, a, b, c, d, n);
+    }
+    let h = half(n);
+    let s = n - h;
+    four_zero(l, a, b, c, d, h) & four_zero(l, a + s, b + s, c + s, d + s, h)
+}
+
+// Whether n words from each of two places on are 0.
+pub fn zero_in_two(l: &[u8], a: usize, b: usize, n: usize) -> bool
+    requires { ⌜ (2 * (a + n) ≤ length (now l)) × (2 * (b + n) ≤ length (now l)) × (n < 65536) ⌝ }
+    ensures { λ r. ⌜ r ≡ (every (isZero (now (l .entry))) a n && every (isZero (now (l .entry))) b n) ⌝ }
+{
+    if n < 16 {
+        return four_zero(l, a, b, a, b, n);
+    }
+    let h = half(n);
+    let s = n - h;
+    four_zero(l, a, b, a + s, b + s, h)
+}
+
+// ---- Sums
 
 // The sum of n words from word k on.
 pub fn sum(l: &[u8], k: usize, n: usize) -> u32

@@ -1,32 +1,39 @@
 -- `tables::check::calls_rest` meets its contract.
 use borrow.Author.Needs.{needs}
-use Prim.Native.Nat.{_-_}
-use Rattle.tables.specs.Checks.{callsRest}
+use Rattle.tables.specs.Checks.{restZero, callsRest}
 use Rattle.tables.proofs.check.calls_rest.Statement.{statement}
 use Rattle.tables.proofs.check.calls_rest.Tie as tie
 
-rest-zero-requires : tie.Need-rest-zero-requires
-rest-zero-requires c κs = search needs
+add-zero-in-four : tie.Need-add-zero-in-four
+add-zero-in-four c = search needs
 
-rest-zero-requires-2 : tie.Need-rest-zero-requires-2
-rest-zero-requires-2 c κs = search needs
+add-zero-in-four-2 : tie.Need-add-zero-in-four-2
+add-zero-in-four-2 c = search needs
 
-rest-zero-requires-3 : tie.Need-rest-zero-requires-3
-rest-zero-requires-3 c κs = search needs
+add-zero-in-four-3 : tie.Need-add-zero-in-four-3
+add-zero-in-four-3 c = search needs
 
-rest-zero-requires-4 : tie.Need-rest-zero-requires-4
-rest-zero-requires-4 c κs = search needs
+add-zero-in-four-4 : tie.Need-add-zero-in-four-4
+add-zero-in-four-4 c = search needs
+
+sub-zero-in-four : tie.Need-sub-zero-in-four
+sub-zero-in-four c = search needs
+
+zero-in-four-requires : tie.Need-zero-in-four-requires
+zero-in-four-requires c κs = search needs
 
 returns : tie.Need-returns
-unfolding callsRest
-returns c = rw (c .before .before .before .rest-zero .ensures, c .before .before .rest-zero2 .ensures, c .before .rest-zero3 .ensures, c .rest-zero4 .ensures)
+unfolding restZero callsRest
+returns c = c .zero-in-four .ensures
 
 pub calls-rest-spec : {M : Type 1} → statement M
 calls-rest-spec =
     tie.close
     (tie.spec
-    rest-zero-requires
-    rest-zero-requires-2
-    rest-zero-requires-3
-    rest-zero-requires-4
+    add-zero-in-four
+    add-zero-in-four-2
+    add-zero-in-four-3
+    add-zero-in-four-4
+    sub-zero-in-four
+    zero-in-four-requires
     returns)
