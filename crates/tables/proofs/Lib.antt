@@ -11,6 +11,8 @@ pub mod CheckFacts
 pub mod Decoded
 pub mod Exact
 pub mod LoopLaws
+pub mod Joined
+pub mod Entries
 pub mod Shortcuts
 pub mod Written
 pub mod WholeFacts

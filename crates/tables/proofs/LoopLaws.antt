@@ -3,7 +3,7 @@ use Prim.Native.Nat.{ℕ, _≤_, _<_}
 use native.Mathlib.Omega.{arith}
 use mathlib.Core.Path.{_≡_, refl}
 use mathlib.Core.List.{List}
-use mathlib.Core.Bool.{Bool, true, false, _||_, _&&_}
+use mathlib.Core.Bool.{Bool, true, false, cond, _||_, _&&_}
 use lib.Dec.{leb, eqb}
 use lib.ListN.{length}
 use borrow.Author.Tests.{lt-ltb, le-ltb}
@@ -30,13 +30,14 @@ module _ (l : List ℕ) where
   unfolding checks
   checks-header h e = rw (le-ltb (length l) tableLength h, e)
 
-  pub checks-sums : tableLength ≤ length l → headerOk l ≡ true → sumsOk l ≡ false → checks l ≡ false
+  pub checks-last : tableLength ≤ length l → headerOk l ≡ true → checks l ≡ (unusedOk l && (sumsOk l && entriesOk l))
   unfolding checks
-  checks-sums h e f = rw (le-ltb (length l) tableLength h, e, f)
-
-  pub checks-last : tableLength ≤ length l → headerOk l ≡ true → sumsOk l ≡ true → checks l ≡ (unusedOk l && entriesOk l)
-  unfolding checks
-  checks-last h e f = rw (le-ltb (length l) tableLength h, e, f)
+  checks-last h e = rw (le-ltb (length l) tableLength h, e) (go (sumsOk l) (unusedOk l))
+    where
+      go : (s u : Bool) → cond s (u && entriesOk l) false ≡ (u && (s && entriesOk l))
+      go true u = refl
+      go false true = refl
+      go false false = refl
 
 -- ---- Flags
 

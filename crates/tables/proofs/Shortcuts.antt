@@ -1,19 +1,27 @@
--- Where a table is not merged, or none of its events is counted, one loop does for two.
-use Prim.Native.Nat.{ℕ, zero, suc, _+_, _-_, _≤_, _<_}
+-- Where a table is not merged, one loop does for two, and where few events are counted, no production has to be measured.
+use Prim.Native.Nat.{ℕ, zero, suc, _+_, _-_, _*_, _%_, _≤_, _<_}
 use native.Mathlib.Omega.{arith}
-use native.Mathlib.Nat.{zero-add}
+use native.Mathlib.Nat.{zero-add, mod-eq-of-lt}
 use mathlib.Core.Path.{_≡_, refl, sym, _∙_}
-use mathlib.Core.List.{List}
-use mathlib.Core.Bool.{true, _&&_, and-true}
-use lib.Dec.{leb}
-use borrow.Author.Tests.{le-leb}
+use mathlib.Core.List.{List, [], _∷_}
+use mathlib.Core.Bool.{Bool, true, false, cond, _&&_, _||_, and-true}
+use lib.Dec.{leb, eqb}
+use borrow.Author.Tests.{le-leb, leb-true, leb-false, eqb-true}
 use Rattle.words.specs.Words.{wordAt}
 use Rattle.words.specs.Runs.{every, total}
-use Rattle.words.proofs.RunLaws.{every-at, every-same, every-add, all-ones, total-ones, total-part}
-use Rattle.tables.specs.Layout.{productionEventsAt, codesAt, countsAt, setsAt, clearsAt, flagsAt, lowsAt, highsAt, marksAt, callParametersAt}
-use Rattle.tables.specs.Checks.{eventOk, textOf, callOk, parameterOk, parametersOk, sizeOf, sizeAt, productionOk, plainOk}
-use Rattle.tables.proofs.EventWords.{event-facts}
+use Rattle.words.proofs.Bools.{chain-parts, chain-all}
+use Rattle.words.proofs.RunLaws.{every-at, every-all, every-add, total-add, total-more, total-same, total-part}
+use Rattle.tables.specs.Layout.{productionEventsAt, productionCallsAt, codesAt, countsAt, setsAt, clearsAt, flagsAt, lowsAt, highsAt, marksAt, callParametersAt}
+use Rattle.tables.specs.Checks.{eventOk, textOf, callOk, parameterOk, parametersOk, sizeOf, sizeAt, productionOk, plainOk, mostEvents, sequencesOk, lowAt}
+use Rattle.tables.proofs.EventWords.{EventFacts, event-facts}
 use Rattle.tables.proofs.CheckFacts.{CallWordFacts, call-word-facts}
+
+-- ---- Lower bytes
+
+-- the sum of the lower bytes of words that have no other
+pub low-total : (l : List ℕ) (s n : ℕ) → ((i : ℕ) → i < n → wordAt l (s + i) < 256) → total (lowAt l) s n ≡ total (wordAt l) s n
+unfolding lowAt
+low-total l s n b = total-same (lowAt l) (wordAt l) s s n (λ i h. mod-eq-of-lt (b i h))
 
 -- ---- Parameters
 
@@ -39,32 +47,176 @@ plain-parameters l n z ok =
 
 -- ---- Events
 
-size-one : (c n : ℕ) → n ≡ 1 → sizeOf c n ≡ 1
+-- how much more an event of count c stands for
+size-more : (c n : ℕ) → 1 ≤ n → sizeOf c n ≤ 1 + 3 * (n - 1)
 unfolding sizeOf
-size-one c n e = rw e
+size-more c n h = go (leb n 1) refl (eqb c 3 || eqb c 5) refl
+  where
+    go : (a : Bool) → leb n 1 ≡ a → (b : Bool) → (eqb c 3 || eqb c 5) ≡ b → sizeOf c n ≤ 1 + 3 * (n - 1)
+    go true p b q = rw p (omega arith)
+    go false p true q = let m = leb-false n 1 p in rw (p, q) (omega arith)
+    go false p false q = let m = leb-false n 1 p in rw (p, q) (omega arith)
 
-module _ (l : List ℕ) (n : ℕ) (ok : every (eventOk l) 0 n ≡ true) (ones : total (wordAt l) countsAt n ≡ n) where
-  count-low : (i : ℕ) → i < n → 1 ≤ wordAt l (countsAt + i)
+size-most : (c n : ℕ) → n ≤ 9 → sizeOf c n ≤ 18
+unfolding sizeOf
+size-most c n h = go (leb n 1) refl (eqb c 3 || eqb c 5) refl
+  where
+    go : (a : Bool) → leb n 1 ≡ a → (b : Bool) → (eqb c 3 || eqb c 5) ≡ b → sizeOf c n ≤ 18
+    go true p b q = rw p (omega arith)
+    go false p true q = rw (p, q) (omega arith)
+    go false p false q = rw (p, q) (omega arith)
+
+-- what an event's count has above 1
+abbrev spareAt : List ℕ → ℕ → ℕ
+spareAt l i = wordAt l (countsAt + i) - 1
+
+spare-total : (l : List ℕ) (n : ℕ) → ((i : ℕ) → i < n → 1 ≤ wordAt l (countsAt + i)) → total (spareAt l) 0 n + n ≡ total (wordAt l) countsAt n
+unfolding total
+spare-total l zero b = refl
+spare-total l (suc n) b =
+    let a = spare-total l n (λ i h. b i (omega arith)) in
+    let m = b n (omega arith) in
+    rw zero-add (omega arith)
+
+module _ (l : List ℕ) (n : ℕ) (ok : every (eventOk l) 0 n ≡ true) where
+  pub event-at : (i : ℕ) → i < n
+      → EventFacts (wordAt l (codesAt + i)) (wordAt l (countsAt + i)) (wordAt l (setsAt + i)) (wordAt l (clearsAt + i)) (wordAt l (flagsAt + i)) (wordAt l (lowsAt + i)) (wordAt l (highsAt + i))
   unfolding eventOk
-  count-low i h =
+  event-at i h =
       event-facts (wordAt l (codesAt + i)) (wordAt l (countsAt + i)) (wordAt l (setsAt + i)) (wordAt l (clearsAt + i)) (wordAt l (flagsAt + i)) (wordAt l (lowsAt + i)) (wordAt l (highsAt + i))
-      (rw zero-add at (every-at (eventOk l) 0 n i ok h)) .countLow
+      (rw zero-add at (every-at (eventOk l) 0 n i ok h))
 
-  size-plain : (i : ℕ) → i < n → sizeAt l i ≡ 1
-  unfolding sizeAt
-  size-plain i h = size-one (wordAt l (codesAt + i)) (wordAt l (countsAt + i)) (all-ones (wordAt l) countsAt n i ones count-low h)
+  pub low-counts : total (lowAt l) countsAt n ≡ total (wordAt l) countsAt n
+  low-counts = low-total l countsAt n (λ i h. small i (event-at i h .countHigh))
+    where
+      small : (i : ℕ) → wordAt l (countsAt + i) ≤ 9 → wordAt l (countsAt + i) < 256
+      small i h = omega arith
 
-  sizes-plain : (from m : ℕ) → from + m ≤ n → total (sizeAt l) from m ≡ m
-  sizes-plain from m h = total-ones (sizeAt l) from m (λ i q. size-plain (from + i) (omega arith))
+  spare-counts : total (spareAt l) 0 n + n ≡ total (wordAt l) countsAt n
+  spare-counts = spare-total l n (λ i h. event-at i h .countLow)
 
-  plain-production : (p k : ℕ) → total (wordAt l) productionEventsAt k ≡ n → p < k → productionOk l p ≡ plainOk l p
-  unfolding productionOk plainOk
-  plain-production p k e h =
-      rw (sizes-plain (total (wordAt l) productionEventsAt p) (wordAt l (productionEventsAt + p)) (omega (arith, total-part (wordAt l) productionEventsAt p k h, e)))
+  pub counts-ge : n ≤ total (wordAt l) countsAt n
+  counts-ge = omega (arith, spare-counts)
 
-  pub plain-productions : (k : ℕ) → total (wordAt l) productionEventsAt k ≡ n → n ≤ 256
-      → (every (productionOk l) 0 k && leb (total (sizeAt l) 0 n) 256) ≡ every (plainOk l) 0 k
-  plain-productions k e h =
-      let a : total (sizeAt l) 0 n ≡ n = sizes-plain 0 n (omega arith) in
-      rw (a, le-leb n 256 h, and-true (every (productionOk l) 0 k))
-      (every-same (productionOk l) (plainOk l) 0 k (λ p q. plain-production (0 + p) k e (rw zero-add q)))
+  sizes-more : (from m : ℕ) → from + m ≤ n → total (sizeAt l) from m ≤ m + 3 * total (spareAt l) from m
+  unfolding total sizeAt
+  sizes-more from zero h = omega arith
+  sizes-more from (suc m) h =
+      let a = sizes-more from m (omega arith) in
+      let b = size-more (wordAt l (codesAt + (from + m))) (wordAt l (countsAt + (from + m))) (event-at (from + m) (omega arith) .countLow) in
+      omega arith
+
+  spare-part : (from m : ℕ) → from + m ≤ n → total (spareAt l) from m ≤ total (spareAt l) 0 n
+  spare-part from m h =
+      let e : n ≡ from + m + (n - (from + m)) = omega arith in
+      let a = total-add (spareAt l) 0 (from + m) (n - (from + m)) in
+      let b = total-add (spareAt l) 0 from m in
+      rw e (omega (arith, a, rw zero-add at b))
+
+  -- n events stand for at most three times as many more as their counts have above 1
+  pub sizes-extra : (from m : ℕ) → from + m ≤ n → total (sizeAt l) from m ≤ m + 3 * (total (wordAt l) countsAt n - n)
+  sizes-extra from m h = omega (arith, sizes-more from m h, spare-part from m h, spare-counts)
+
+  one-size : (from : ℕ) → from < n → total (sizeAt l) from 1 ≤ 18
+  unfolding total sizeAt
+  one-size from h =
+      let e : from + 0 ≡ from = omega arith in
+      rw e (omega (arith, size-most (wordAt l (codesAt + from)) (wordAt l (countsAt + from)) (event-at from h .countHigh)))
+
+-- ---- Productions
+
+most-below : (e : ℕ) → mostEvents e ≤ 24
+unfolding mostEvents
+most-below e = go (leb e 23) refl
+  where
+    go : (t : Bool) → leb e 23 ≡ t → mostEvents e ≤ 24
+    go true q = rw q (omega arith)
+    go false q = rw q (omega arith)
+
+record PlainFacts (l : List ℕ) (most p : ℕ) : Type 0 where
+  events : 1 ≤ wordAt l (productionEventsAt + p)
+  calls : wordAt l (productionCallsAt + p) ≤ 8
+  within : wordAt l (productionEventsAt + p) ≤ most
+
+plain-facts : (l : List ℕ) (most p : ℕ) → plainOk l most p ≡ true → PlainFacts l most p
+unfolding plainOk
+plain-facts l most p e =
+    let r = chain-parts (leb 1 (wordAt l (productionEventsAt + p))) (leb (wordAt l (productionCallsAt + p)) 8 ∷ leb (wordAt l (productionEventsAt + p)) most ∷ []) e in
+    record {
+      events = leb-true 1 (wordAt l (productionEventsAt + p)) (r .0);
+      calls = leb-true (wordAt l (productionCallsAt + p)) 8 (r .1 .0);
+      within = leb-true (wordAt l (productionEventsAt + p)) most (r .1 .1 .0);
+    }
+
+module _ (l : List ℕ) (n : ℕ) (ok : every (eventOk l) 0 n ≡ true) (extra : ℕ) (all : extra ≡ 3 * (total (wordAt l) countsAt n - n)) where
+  sizes-within : (from m : ℕ) → from + m ≤ n → 1 ≤ m → m ≤ mostEvents extra → total (sizeAt l) from m ≤ 24
+  unfolding mostEvents
+  sizes-within from m h a b = go (leb extra 23) refl
+    where
+      go : (t : Bool) → leb extra 23 ≡ t → total (sizeAt l) from m ≤ 24
+      go true q =
+          let c : m ≤ 24 - extra = rw q at b in
+          let d = leb-true extra 23 q in
+          omega (arith, sizes-extra l n ok from m h)
+      go false q =
+          let c : m ≤ 1 = rw q at b in
+          let e : m ≡ 1 = omega arith in
+          rw e (omega (arith, one-size l n ok from (omega arith)))
+
+  module _ (k : ℕ) (plain : every (plainOk l (mostEvents extra)) 0 k ≡ true) where
+    plain-at : (p : ℕ) → p < k → PlainFacts l (mostEvents extra) p
+    plain-at p h = plain-facts l (mostEvents extra) p (rw zero-add at (every-at (plainOk l (mostEvents extra)) 0 k p plain h))
+
+    production-within : (p : ℕ) → total (wordAt l) productionEventsAt k ≡ n → p < k → productionOk l p ≡ true
+    unfolding productionOk
+    production-within p e h =
+        let f : PlainFacts l (mostEvents extra) p = plain-at p h in
+        chain-all (leb 1 (wordAt l (productionEventsAt + p))) (leb (wordAt l (productionCallsAt + p)) 8 ∷ leb (total (sizeAt l) (total (wordAt l) productionEventsAt p) (wordAt l (productionEventsAt + p))) 24 ∷ []) (
+          le-leb 1 (wordAt l (productionEventsAt + p)) (f .events),
+          (
+            le-leb (wordAt l (productionCallsAt + p)) 8 (f .calls),
+            (
+              le-leb (total (sizeAt l) (total (wordAt l) productionEventsAt p) (wordAt l (productionEventsAt + p))) 24
+                  (sizes-within (total (wordAt l) productionEventsAt p) (wordAt l (productionEventsAt + p)) (omega (arith, total-part (wordAt l) productionEventsAt p k h, e)) (f .events) (f .within)),
+              tt,
+            ),
+          ),
+        )
+
+    low-events : total (lowAt l) productionEventsAt k ≡ total (wordAt l) productionEventsAt k
+    low-events = low-total l productionEventsAt k (λ p h. small p (plain-at p h))
+      where
+        small : (p : ℕ) → PlainFacts l (mostEvents extra) p → wordAt l (productionEventsAt + p) < 256
+        small p f = omega (arith, most-below extra)
+
+    low-calls : total (lowAt l) productionCallsAt k ≡ total (wordAt l) productionCallsAt k
+    low-calls = low-total l productionCallsAt k (λ p h. small p (plain-at p h))
+      where
+        small : (p : ℕ) → PlainFacts l (mostEvents extra) p → wordAt l (productionCallsAt + p) < 256
+        small p f = omega arith
+
+    -- where no production can pass its limit, only the sums are left to be tested
+    pub plain-sequences : (calls : ℕ) → n + extra ≤ 256
+        → (eqb (total (lowAt l) productionEventsAt k) n && eqb (total (lowAt l) productionCallsAt k) calls) ≡ sequencesOk l k n calls
+    unfolding sequencesOk
+    plain-sequences calls b = rw (low-events, low-calls) (go (eqb (total (wordAt l) productionEventsAt k) n) refl)
+      where
+        size : leb (total (sizeAt l) 0 n) 256 ≡ true
+        size = le-leb (total (sizeAt l) 0 n) 256 (omega (arith, sizes-extra l n ok 0 n (omega arith)))
+
+        go : (t : Bool) → eqb (total (wordAt l) productionEventsAt k) n ≡ t
+            → (eqb (total (wordAt l) productionEventsAt k) n && eqb (total (wordAt l) productionCallsAt k) calls)
+            ≡ (eqb (total (wordAt l) productionEventsAt k) n && eqb (total (wordAt l) productionCallsAt k) calls && every (productionOk l) 0 k && leb (total (sizeAt l) 0 n) 256)
+        go true q =
+            let e = eqb-true (total (wordAt l) productionEventsAt k) n q in
+            let pr : every (productionOk l) 0 k ≡ true = every-all (productionOk l) 0 k (λ p h. rw zero-add (production-within p e h)) in
+            rw (q, pr, size) (sym (and-true (eqb (total (wordAt l) productionCallsAt k) calls && true) ∙ and-true (eqb (total (wordAt l) productionCallsAt k) calls)))
+        go false q = rw q
+
+-- ---- Calls
+
+pub low-parameters : (l : List ℕ) (n : ℕ) → every (callOk l) 0 n ≡ true → total (lowAt l) callParametersAt n ≡ total (wordAt l) callParametersAt n
+low-parameters l n ok = low-total l callParametersAt n (λ i h. small i (call-word-facts l i (rw zero-add at (every-at (callOk l) 0 n i ok h))))
+  where
+    small : (i : ℕ) → CallWordFacts l i → wordAt l (callParametersAt + i) < 256
+    small i f = omega arith

@@ -1,6 +1,6 @@
 -- The tests by which a table is found whole, word by word, as the code makes them. proofs/Exact shows that they come to
 -- `whole`.
-use Prim.Native.Nat.{ℕ, _+_, _*_, _-_}
+use Prim.Native.Nat.{ℕ, _+_, _*_, _-_, _%_}
 use mathlib.Core.Bool.{Bool, false, cond, _&&_, _||_}
 use mathlib.Core.List.{List}
 use lib.Dec.{leb, ltb, eqb}
@@ -135,10 +135,29 @@ productionOk l p =
     && leb (wordAt l (productionCallsAt + p)) 8
     && leb (total (sizeAt l) (total (wordAt l) productionEventsAt p) (wordAt l (productionEventsAt + p))) 24
 
--- a production none of whose events is counted
-unfoldable pub plainOk : List ℕ → ℕ → Bool
-plainOk l p =
-    leb 1 (wordAt l (productionEventsAt + p)) && leb (wordAt l (productionCallsAt + p)) 8 && leb (wordAt l (productionEventsAt + p)) 24
+-- a production of at most so many events
+unfoldable pub plainOk : List ℕ → ℕ → ℕ → Bool
+plainOk l most p =
+    leb 1 (wordAt l (productionEventsAt + p))
+    && leb (wordAt l (productionCallsAt + p)) 8
+    && leb (wordAt l (productionEventsAt + p)) most
+
+-- how many events a production may have, whichever they are, in a table whose events stand for at most this many more than
+-- they are: one event alone stands for at most 18
+unfoldable pub mostEvents : ℕ → ℕ
+mostEvents extra = cond (leb extra 23) (24 - extra) 1
+
+-- n productions that have these numbers of events and calls, and stand for no more events than they may
+unfoldable pub sequencesOk : List ℕ → (n events calls : ℕ) → Bool
+sequencesOk l n events calls =
+    eqb (total (wordAt l) productionEventsAt n) events
+    && eqb (total (wordAt l) productionCallsAt n) calls
+    && every (productionOk l) 0 n
+    && leb (total (sizeAt l) 0 events) 256
+
+-- the lower byte of word k
+unfoldable pub lowAt : List ℕ → ℕ → ℕ
+lowAt l k = wordAt l k % 256
 
 -- ---- All
 

@@ -1,15 +1,16 @@
-// Which bytes are a whole table. Each loop goes over the used words of a few sections, or over the unused words of one, with
-// no early exit, so that it is compiled to vector instructions.
+// Which bytes are a whole table. Each loop goes over the used words of a few sections, or over the unused words of four, with
+// no early exit and in numbers of 16 bits, so that it is compiled to vector instructions that take eight words at a time.
+// The sums that the header gives are taken in the same loops, of each word its lower byte: a word in range has no more.
 ghost use mathlib.Core.Path.{_≡_};
 ghost use mathlib.Core.Bool.{true, _&&_};
 ghost use lib.Dec.{leb};
-ghost use Prim.Native.Nat.{_+_, _*_, _≤_, _<_};
+ghost use Prim.Native.Nat.{_+_, _-_, _*_, _≤_, _<_};
 ghost use lib.ListN.{length};
 ghost use Rattle.words.specs.Words.{wordAt};
 ghost use Rattle.words.specs.Runs.{every, total};
-ghost use Rattle.tables.specs.Layout.{productionEventsAt, callParametersAt};
+ghost use Rattle.tables.specs.Layout.{productionEventsAt, productionCallsAt, countsAt, callParametersAt};
 ghost use Rattle.tables.specs.Whole.{whole};
-ghost use Rattle.tables.specs.Checks.{textWordsOk, countWordsOk, headerOk, sumsOk, productionsRest, testsRest, detailsRest, callsRest, parametersRest, unusedOk, eventWordsOk, eventOk, textOf, callWordsOk, callOk, parameterOk, parametersOk, sizeOf, sizeAt, productionOk, plainOk, entriesOk};
+ghost use Rattle.tables.specs.Checks.{textWordsOk, countWordsOk, headerOk, sumsOk, productionsRest, testsRest, detailsRest, callsRest, parametersRest, unusedOk, eventWordsOk, eventOk, textOf, callWordsOk, callOk, parameterOk, parametersOk, sizeOf, sizeAt, productionOk, plainOk, mostEvents, sequencesOk, lowAt, entriesOk};
 
 // ---- The header
 
@@ -46,18 +47,6 @@ fn header_ok(l: &[u8]) -> bool
             words::word_at(l, 6),
             words::word_at(l, 7),
         )
-}
-
-// The counts of productions and calls add up to those of the header.
-fn sums_ok(l: &[u8]) -> bool
-    requires { ⌜ (5904 ≤ length (now l)) × (wordAt (now l) 4 ≤ 64) × (wordAt (now l) 6 ≤ 128) ⌝ }
-    ensures { λ r. ⌜ r ≡ sumsOk (now (l .entry)) ⌝ }
-{
-    let productions = words::word_at(l, 4) as usize;
-    let calls = words::word_at(l, 6) as usize;
-    (words::sum(l, 8, productions) == words::word_at(l, 5) as u32)
-        & (words::sum(l, 72, productions) == calls as u32)
-        & (words::sum(l, 2312, calls) == words::word_at(l, 7) as u32)
 }
 
 // ---- Unused words
@@ -115,6 +104,13 @@ fn unused_ok(l: &[u8]) -> bool
 
 // ---- Events
 
+// What a loop over entries finds: whether all are in range, and the sum of the lower bytes of one of their words.
+pub struct Tally {
+    pub ok: bool,
+    pub total: u16,
+}
+
+// What is only bounded by a power of two, or has to be 0, is joined and tested once.
 fn event_ok(code: u16, count: u16, set: u16, clear: u16, flags: u16, low: u16, high: u16) -> bool
     ensures { λ r. ⌜ r ≡ eventWordsOk code count set clear flags low high ⌝ }
 {
@@ -123,33 +119,38 @@ fn event_ok(code: u16, count: u16, set: u16, clear: u16, flags: u16, low: u16, h
         & (1 <= count)
         & (count <= 9)
         & ((count <= 1) | (code <= 5))
-        & (set < 8192)
-        & (clear < 8192)
+        & ((set | clear | high) < 8192)
         & (flags < 8)
-        & ((4 <= flags) | ((low == 0) & (high == 0)))
-        & (high < 8192)
+        & ((4 <= flags) | ((low | high) == 0))
 }
 
-fn events_ok(l: &[u8], n: usize) -> bool
+// The events, and the sum of their counts.
+fn events_tally(l: &[u8], n: usize) -> Tally
     requires { ⌜ (5904 ≤ length (now l)) × (n ≤ 256) ⌝ }
-    ensures { λ r. ⌜ r ≡ every (eventOk (now (l .entry))) 0 n ⌝ }
+    ensures { λ r. ⌜ (r .ok ≡ every (eventOk (now (l .entry))) 0 n) × (r .total ≡ total (lowAt (now (l .entry))) countsAt n) ⌝ }
 {
     let mut ok = true;
+    let mut counts: u16 = 0;
     let mut i: usize = 0;
     while i < n {
+        let count = words::word_at(l, 392 + i);
         ok = ok
             & event_ok(
                 words::word_at(l, 136 + i),
-                words::word_at(l, 392 + i),
+                count,
                 words::word_at(l, 648 + i),
                 words::word_at(l, 904 + i),
                 words::word_at(l, 1160 + i),
                 words::word_at(l, 1416 + i),
                 words::word_at(l, 1672 + i),
             );
+        counts += count % 256;
         i += 1;
     }
-    ok
+    Tally {
+        ok: ok,
+        total: counts,
+    }
 }
 
 // ---- Calls and parameters
@@ -161,35 +162,56 @@ fn text_of(mark: u16, first: u16, second: u16) -> u16
     if mark == 1 { second } else { first }
 }
 
+// How far a number is above another.
+fn excess(x: u16, most: u16) -> u16
+    ensures { λ r. ⌜ r ≡ x - most ⌝ }
+{
+    if most < x { x - most } else { 0 }
+}
+
+// Whether a span is part of a text of this length, with no sum that would need more than 16 bits.
+fn span_ok(start: u16, len: u16, text: u16) -> bool
+    ensures { λ r. ⌜ r ≡ leb (start + len) text ⌝ }
+{
+    (excess(start, text) | excess(len, excess(text, start))) == 0
+}
+
 fn call_ok(mark: u16, start: u16, len: u16, parameters: u16, merged: u16, text: u16) -> bool
     ensures { λ r. ⌜ r ≡ callWordsOk mark start len parameters merged text ⌝ }
 {
-    (mark <= merged) & (parameters <= 8) & (start as u32 + len as u32 <= text as u32)
+    (mark <= merged) & (parameters <= 8) & span_ok(start, len, text)
 }
 
-fn calls_ok(l: &[u8], n: usize) -> bool
+// The calls, and the sum of their numbers of parameters.
+fn calls_tally(l: &[u8], n: usize) -> Tally
     requires { ⌜ (5904 ≤ length (now l)) × (n ≤ 128) ⌝ }
-    ensures { λ r. ⌜ r ≡ every (callOk (now (l .entry))) 0 n ⌝ }
+    ensures { λ r. ⌜ (r .ok ≡ every (callOk (now (l .entry))) 0 n) × (r .total ≡ total (lowAt (now (l .entry))) callParametersAt n) ⌝ }
 {
     let merged = words::word_at(l, 1);
     let first = words::word_at(l, 2);
     let second = words::word_at(l, 3);
     let mut ok = true;
+    let mut parameters: u16 = 0;
     let mut i: usize = 0;
     while i < n {
         let mark = words::word_at(l, 1928 + i);
+        let count = words::word_at(l, 2312 + i);
         ok = ok
             & call_ok(
                 mark,
                 words::word_at(l, 2056 + i),
                 words::word_at(l, 2184 + i),
-                words::word_at(l, 2312 + i),
+                count,
                 merged,
                 text_of(mark, first, second),
             );
+        parameters += count % 256;
         i += 1;
     }
-    ok
+    Tally {
+        ok: ok,
+        total: parameters,
+    }
 }
 
 // Whether n parameters, from one on, are parts of a text of this length.
@@ -201,12 +223,27 @@ fn parameters_in(l: &[u8], text: u16, from: usize, n: usize) -> bool
     let mut i: usize = 0;
     while i < n {
         let at = from + i;
-        let start = words::word_at(l, 2440 + at) as u32;
-        let len = words::word_at(l, 2696 + at) as u32;
-        ok = ok & (start + len <= text as u32);
+        ok = ok
+            & span_ok(
+                words::word_at(l, 2440 + at),
+                words::word_at(l, 2696 + at),
+                text,
+            );
         i += 1;
     }
     ok
+}
+
+// The same in two runs that cover the n, so that none are left over when sixteen are taken at a time.
+fn parameters_within(l: &[u8], text: u16, from: usize, n: usize) -> bool
+    requires { ⌜ (5904 ≤ length (now l)) × (from + n ≤ 256) ⌝ }
+    ensures { λ r. ⌜ r ≡ every (parameterOk (now (l .entry)) text) from n ⌝ }
+{
+    if n < 16 {
+        return parameters_in(l, text, from, n);
+    }
+    let h = words::half(n);
+    parameters_in(l, text, from, h) & parameters_in(l, text, from + (n - h), h)
 }
 
 // The parameters of n calls, each in its call's text.
@@ -282,54 +319,100 @@ fn spans_ok(l: &[u8], n: usize, parameters: usize) -> bool
     ensures { λ r. ⌜ r ≡ every (parametersOk (now (l .entry))) 0 n ⌝ }
 {
     if words::word_at(l, 1) == 0 {
-        return parameters_in(l, words::word_at(l, 2), 0, parameters);
+        return parameters_within(l, words::word_at(l, 2), 0, parameters);
     }
     parameters_ok(l, n)
 }
 
-// Productions none of whose events is counted.
-fn plain_ok(l: &[u8], n: usize) -> bool
-    requires { ⌜ (5904 ≤ length (now l)) × (n ≤ 64) ⌝ }
-    ensures { λ r. ⌜ r ≡ every (plainOk (now (l .entry))) 0 n ⌝ }
-{
-    let mut ok = true;
-    let mut p: usize = 0;
-    while p < n {
-        let events = words::word_at(l, 8 + p);
-        ok = ok & ((1 <= events) & (words::word_at(l, 72 + p) <= 8) & (events <= 24));
-        p += 1;
-    }
-    ok
+// What the loop over productions finds: whether each has 1 to `most` events and at most 8 calls, and how many all have.
+pub struct Sums {
+    pub ok: bool,
+    pub events: u16,
+    pub calls: u16,
 }
 
-// The productions and how many events they stand for: where no event is counted, as many as they have.
-fn sequences_ok(l: &[u8], n: usize, events: usize) -> bool
-    requires { ⌜ ((5904 ≤ length (now l)) × (n ≤ 64)) × ((total (wordAt (now l)) productionEventsAt n ≡ events) × (events ≤ 256) × (every (eventOk (now l)) 0 events ≡ true)) ⌝ }
-    ensures { λ r. ⌜ r ≡ (every (productionOk (now (l .entry))) 0 n && leb (total (sizeAt (now (l .entry))) 0 events) 256) ⌝ }
+fn productions_tally(l: &[u8], n: usize, most: u16) -> Sums
+    requires { ⌜ (5904 ≤ length (now l)) × (n ≤ 64) ⌝ }
+    ensures { λ r. ⌜ (r .ok ≡ every (plainOk (now (l .entry)) most) 0 n) × (r .events ≡ total (lowAt (now (l .entry))) productionEventsAt n) × (r .calls ≡ total (lowAt (now (l .entry))) productionCallsAt n) ⌝ }
 {
-    if words::sum(l, 392, events) == events as u32 {
-        return plain_ok(l, n);
+    let mut ok = true;
+    let mut events: u16 = 0;
+    let mut calls: u16 = 0;
+    let mut p: usize = 0;
+    while p < n {
+        let own = words::word_at(l, 8 + p);
+        let made = words::word_at(l, 72 + p);
+        ok = ok & ((1 <= own) & (made <= 8) & (own <= most));
+        events += own % 256;
+        calls += made % 256;
+        p += 1;
+    }
+    Sums {
+        ok: ok,
+        events: events,
+        calls: calls,
+    }
+}
+
+fn most_events(extra: usize) -> u16
+    ensures { λ r. ⌜ r ≡ mostEvents extra ⌝ }
+{
+    if extra <= 23 { (24 - extra) as u16 } else { 1 }
+}
+
+// The productions, event by event.
+fn exact_ok(l: &[u8], n: usize, events: usize, calls: usize) -> bool
+    requires { ⌜ ((5904 ≤ length (now l)) × (n ≤ 64)) × ((events ≤ 256) × (calls ≤ 128)) ⌝ }
+    ensures { λ r. ⌜ r ≡ sequencesOk (now (l .entry)) n events calls ⌝ }
+{
+    if words::sum(l, 8, n) != events as u32 {
+        return false;
+    }
+    if words::sum(l, 72, n) != calls as u32 {
+        return false;
     }
     productions_ok(l, n) & (sizes(l, 0, events) <= 256)
 }
 
+// The productions and how many events they stand for. An event of count c stands for at most 3 (c - 1) events more than one,
+// so the counts tell what all events together may stand for beyond their number; mostly no production can pass its limit
+// by that.
+fn sequences_ok(l: &[u8], n: usize, events: usize, calls: usize, counts: usize) -> bool
+    requires { ⌜ ((5904 ≤ length (now l)) × (n ≤ 64)) × ((events ≤ 256) × (calls ≤ 128)) × ((every (eventOk (now l)) 0 events ≡ true) × (counts ≡ total (wordAt (now l)) countsAt events) × (events ≤ counts) × (counts < 65536)) ⌝ }
+    ensures { λ r. ⌜ r ≡ sequencesOk (now (l .entry)) n events calls ⌝ }
+{
+    let extra = 3 * (counts - events);
+    let sums = productions_tally(l, n, most_events(extra));
+    if sums.ok & (events + extra <= 256) {
+        return (sums.events as usize == events) & (sums.calls as usize == calls);
+    }
+    exact_ok(l, n, events, calls)
+}
+
 // ---- The table
 
+// The entries, and that their numbers add up to those of the header.
 fn entries_ok(l: &[u8]) -> bool
-    requires { ⌜ (5904 ≤ length (now l)) × ((wordAt (now l) 4 ≤ 64) × (wordAt (now l) 5 ≤ 256) × (wordAt (now l) 6 ≤ 128) × (wordAt (now l) 7 ≤ 256)) × (total (wordAt (now l)) productionEventsAt (wordAt (now l) 4) ≡ wordAt (now l) 5) × (total (wordAt (now l)) callParametersAt (wordAt (now l) 6) ≡ wordAt (now l) 7) ⌝ }
-    ensures { λ r. ⌜ r ≡ entriesOk (now (l .entry)) ⌝ }
+    requires { ⌜ (5904 ≤ length (now l)) × ((wordAt (now l) 4 ≤ 64) × (wordAt (now l) 5 ≤ 256) × (wordAt (now l) 6 ≤ 128) × (wordAt (now l) 7 ≤ 256)) ⌝ }
+    ensures { λ r. ⌜ r ≡ (sumsOk (now (l .entry)) && entriesOk (now (l .entry))) ⌝ }
 {
     let productions = words::word_at(l, 4) as usize;
     let events = words::word_at(l, 5) as usize;
     let calls = words::word_at(l, 6) as usize;
-    let parameters = words::word_at(l, 7) as usize;
-    if !events_ok(l, events) {
+    let parameters = words::word_at(l, 7);
+    let e = events_tally(l, events);
+    if !e.ok {
         return false;
     }
-    if !calls_ok(l, calls) {
+    let c = calls_tally(l, calls);
+    if !c.ok {
         return false;
     }
-    spans_ok(l, calls, parameters) & sequences_ok(l, productions, events)
+    if c.total != parameters {
+        return false;
+    }
+    spans_ok(l, calls, parameters as usize)
+        & sequences_ok(l, productions, events, calls, e.total as usize)
 }
 
 // Whether the bytes are a whole table. What stands past its length plays no part.
@@ -340,9 +423,6 @@ pub fn whole(l: &[u8]) -> bool
         return false;
     }
     if !header_ok(l) {
-        return false;
-    }
-    if !sums_ok(l) {
         return false;
     }
     unused_ok(l) & entries_ok(l)

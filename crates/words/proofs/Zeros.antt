@@ -1,13 +1,13 @@
 -- Words that are 0, tested together.
-use Prim.Native.Nat.{ℕ, _+_, _-_, _≤_, _<_}
+use Prim.Native.Nat.{ℕ, _+_, _-_, _^_, _≤_, _<_}
 use native.Mathlib.Omega.{arith}
 use native.Mathlib.Nat.{zero-add}
 use mathlib.Core.Path.{_≡_, refl, sym, ap, _∙_}
 use mathlib.Core.List.{List, [], _∷_}
 use mathlib.Core.Bool.{Bool, true, false, _&&_}
 use lib.Dec.{eqb, ltb}
-use lib.Bits.{bitOr, bitAnd, or-add-and, and-le-l, and-le-r}
-use borrow.Author.Tests.{eqb-true, eq-eqb, ltb-true, ltb-false}
+use lib.Bits.{bitOr, bitAnd, or-add-and, or-lt, and-le-l, and-le-r}
+use borrow.Author.Tests.{eqb-true, eq-eqb, lt-ltb, ltb-true, ltb-false}
 use Rattle.words.specs.Runs.{every, isZero, fourZero}
 use Rattle.words.proofs.Bools.{and-left, and-right, and-both, same-test, AllTrue, chain-parts, chain-all}
 use Rattle.words.proofs.RunLaws.{every-at, every-all, every-shift}
@@ -30,6 +30,23 @@ or-zero x y = same-test (eqb (bitOr x y) 0) (eqb x 0 && eqb y 0) there back
         let b = eqb-true y 0 (and-right (eqb x 0) (eqb y 0) e) in
         let s = or-add-and x y in
         eq-eqb (bitOr x y) 0 (omega (arith, a, b, s))
+
+-- and below a power of two where both are
+pub or-below : (k x y : ℕ) → ltb (bitOr x y) (2 ^ k) ≡ (ltb x (2 ^ k) && ltb y (2 ^ k))
+or-below k x y = same-test (ltb (bitOr x y) (2 ^ k)) (ltb x (2 ^ k) && ltb y (2 ^ k)) there back
+  where
+    there : ltb (bitOr x y) (2 ^ k) ≡ true → (ltb x (2 ^ k) && ltb y (2 ^ k)) ≡ true
+    there e =
+        let z = ltb-true (bitOr x y) (2 ^ k) e in
+        let s = or-add-and x y in
+        let p = and-le-l x y in
+        let q = and-le-r x y in
+        and-both (ltb x (2 ^ k)) (ltb y (2 ^ k)) (lt-ltb x (2 ^ k) (omega (arith, z, s, p, q))) (lt-ltb y (2 ^ k) (omega (arith, z, s, p, q)))
+
+    back : (ltb x (2 ^ k) && ltb y (2 ^ k)) ≡ true → ltb (bitOr x y) (2 ^ k) ≡ true
+    back e =
+        lt-ltb (bitOr x y) (2 ^ k)
+        (or-lt k x y (ltb-true x (2 ^ k) (and-left (ltb x (2 ^ k)) (ltb y (2 ^ k)) e)) (ltb-true y (2 ^ k) (and-right (ltb x (2 ^ k)) (ltb y (2 ^ k)) e)))
 
 pub four-joined : (j w x y z : ℕ)
     → eqb (bitOr j (bitOr (bitOr (bitOr w x) y) z)) 0 ≡ (eqb j 0 && (eqb w 0 && eqb x 0 && eqb y 0 && eqb z 0))

@@ -1,14 +1,16 @@
 -- `tables::check::entries_ok` meets its contract.
 use borrow.Author.Needs.{needs}
-use Prim.Native.Nat.{_-_}
+use Prim.Native.Nat.{_≤_}
 use mathlib.Core.Path.{_≡_, sym, _∙_}
 use mathlib.Core.Bool.{true, false}
-use Rattle.tables.specs.Checks.{eventOk, callOk, parametersOk, sizeAt, productionOk, entriesOk}
+use lib.Dec.{eqb}
+use borrow.Author.Tests.{not-true, not-false, eq-eqb, ne-eqb}
 use Rattle.words.specs.Words.{wordAt}
 use Rattle.words.specs.Runs.{every, total}
-use mathlib.Core.Bool.{and-assoc}
-use lib.Dec.{leb}
-use borrow.Author.Tests.{not-true, not-false}
+use Rattle.tables.specs.Layout.{countsAt, callParametersAt}
+use Rattle.tables.specs.Checks.{eventOk, callOk}
+use Rattle.tables.proofs.Entries.{entries-events, entries-calls, entries-parameters, entries-last}
+use Rattle.tables.proofs.Shortcuts.{low-counts, counts-ge, low-parameters}
 use Rattle.tables.proofs.check.entries_ok.Statement.{statement}
 use Rattle.tables.proofs.check.entries_ok.Tie as tie
 
@@ -33,41 +35,57 @@ cast-calls c = search needs
 word-at-requires-4 : tie.Need-word-at-requires-4
 word-at-requires-4 c κs = search needs
 
-cast-parameters : tie.Need-cast-parameters
-cast-parameters c = search needs
-
-events-ok-requires : tie.Need-events-ok-requires
-events-ok-requires c κs = search needs
+events-tally-requires : tie.Need-events-tally-requires
+events-tally-requires c κs = search needs
 
 returns : tie.Need-returns
-unfolding entriesOk
 returns c =
-    let ev : every (eventOk (c .before .before .before .before .before .before .before .args .l .now)) 0 (wordAt (c .before .before .before .before .before .before .before .args .l .now) 5) ≡ false = rw (← c .before .before .before .before .word-at2 .ensures) (sym (c .before .events-ok .ensures) ∙ not-true (c .before .events-ok .result) (c .if1 .taken)) in
-    rw ev
+    let ev : every (eventOk (c .before .before .before .before .before .before .before .before .args .l .now)) 0 (wordAt (c .before .before .before .before .before .before .before .before .args .l .now) 5) ≡ false = rw (← c .before .before .before .before .before .word-at2 .ensures) (sym (c .before .before .events-tally .ensures .0) ∙ not-true (c .before .before .events-tally .result .ok) (c .if1 .taken)) in
+    sym (entries-events (c .before .before .before .before .before .before .before .before .args .l .now) ev)
 
-calls-ok-requires : tie.Need-calls-ok-requires
-calls-ok-requires c κs = search needs
+calls-tally-requires : tie.Need-calls-tally-requires
+calls-tally-requires c κs = search needs
 
 returns-2 : tie.Need-returns-2
-unfolding entriesOk
 returns-2 c =
-    let ev : every (eventOk (c .before .before .before .before .before .before .before .before .before .args .l .now)) 0 (wordAt (c .before .before .before .before .before .before .before .before .before .args .l .now) 5) ≡ true = rw (← c .before .before .before .before .before .before .word-at2 .ensures) (sym (c .before .before .before .events-ok .ensures) ∙ not-false (c .before .before .before .events-ok .result) (c .before .before .if1 .left)) in
-    let cl : every (callOk (c .before .before .before .before .before .before .before .before .before .args .l .now)) 0 (wordAt (c .before .before .before .before .before .before .before .before .before .args .l .now) 6) ≡ false = rw (← c .before .before .before .before .before .word-at3 .ensures) (sym (c .before .calls-ok .ensures) ∙ not-true (c .before .calls-ok .result) (c .if2 .taken)) in
-    rw (ev, cl)
-
-spans-ok-requires : tie.Need-spans-ok-requires
-spans-ok-requires c κs = ((search needs, search needs), (rw (c .before .before .before .before .before .word-at3 .ensures, c .before .before .before .before .word-at4 .ensures) (c .before .before .before .before .before .before .before .before .before .pre .3), search needs, sym (c .before .calls-ok .ensures) ∙ not-false (c .before .calls-ok .result) (c .if2 .left)))
-
-sequences-ok-requires : tie.Need-sequences-ok-requires
-sequences-ok-requires c κs = ((search needs, search needs), (rw (c .before .before .before .before .before .before .before .before .word-at .ensures, c .before .before .before .before .before .before .before .word-at2 .ensures) (c .before .before .before .before .before .before .before .before .before .before .pre .2), search needs, sym (c .before .before .before .before .events-ok .ensures) ∙ not-false (c .before .before .before .before .events-ok .result) (c .before .before .before .if1 .left)))
+    let ev : every (eventOk (c .before .before .before .before .before .before .before .before .before .before .before .args .l .now)) 0 (wordAt (c .before .before .before .before .before .before .before .before .before .before .before .args .l .now) 5) ≡ true = rw (← c .before .before .before .before .before .before .before .before .word-at2 .ensures) (sym (c .before .before .before .before .before .events-tally .ensures .0) ∙ not-false (c .before .before .before .before .before .events-tally .result .ok) (c .before .before .before .if1 .left)) in
+    let ca : every (callOk (c .before .before .before .before .before .before .before .before .before .before .before .args .l .now)) 0 (wordAt (c .before .before .before .before .before .before .before .before .before .before .before .args .l .now) 6) ≡ false = rw (← c .before .before .before .before .before .before .before .word-at3 .ensures) (sym (c .before .before .calls-tally .ensures .0) ∙ not-true (c .before .before .calls-tally .result .ok) (c .if2 .taken)) in
+    sym (entries-calls (c .before .before .before .before .before .before .before .before .before .before .before .args .l .now) ev ca)
 
 returns-3 : tie.Need-returns-3
-unfolding entriesOk
 returns-3 c =
-    let ev : every (eventOk (c .before .before .before .before .before .before .before .before .before .before .before .args .l .now)) 0 (wordAt (c .before .before .before .before .before .before .before .before .before .before .before .args .l .now) 5) ≡ true = rw (← c .before .before .before .before .before .before .before .before .word-at2 .ensures) (sym (c .before .before .before .before .before .events-ok .ensures) ∙ not-false (c .before .before .before .before .before .events-ok .result) (c .before .before .before .before .if1 .left)) in
-    let cl : every (callOk (c .before .before .before .before .before .before .before .before .before .before .before .args .l .now)) 0 (wordAt (c .before .before .before .before .before .before .before .before .before .before .before .args .l .now) 6) ≡ true = rw (← c .before .before .before .before .before .before .before .word-at3 .ensures) (sym (c .before .before .before .calls-ok .ensures) ∙ not-false (c .before .before .before .calls-ok .result) (c .before .before .if2 .left)) in
-    rw (ev, cl, c .before .spans-ok .ensures, c .sequences-ok .ensures, c .before .before .before .before .before .before .before .before .before .word-at .ensures, c .before .before .before .before .before .before .before .before .word-at2 .ensures, c .before .before .before .before .before .before .before .word-at3 .ensures)
-    (sym (and-assoc (every (parametersOk (c .before .before .before .before .before .before .before .before .before .before .before .args .l .now)) 0 (wordAt (c .before .before .before .before .before .before .before .before .before .before .before .args .l .now) 6)) (every (productionOk (c .before .before .before .before .before .before .before .before .before .before .before .args .l .now)) 0 (wordAt (c .before .before .before .before .before .before .before .before .before .before .before .args .l .now) 4)) (leb (total (sizeAt (c .before .before .before .before .before .before .before .before .before .before .before .args .l .now)) 0 (wordAt (c .before .before .before .before .before .before .before .before .before .before .before .args .l .now) 5)) 256)))
+    let ca : every (callOk (c .before .before .before .before .before .before .before .before .before .before .before .before .before .args .l .now)) 0 (c .before .before .before .before .before .before .before .before .before .word-at3 .result) ≡ true = sym (c .before .before .before .before .calls-tally .ensures .0) ∙ not-false (c .before .before .before .before .calls-tally .result .ok) (c .before .before .if2 .left) in
+    let t : c .before .before .before .before .calls-tally .result .total ≡ total (wordAt (c .before .before .before .before .before .before .before .before .before .before .before .before .before .args .l .now)) callParametersAt (c .before .before .before .before .before .before .before .before .before .word-at3 .result) = c .before .before .before .before .calls-tally .ensures .1 ∙ low-parameters (c .before .before .before .before .before .before .before .before .before .before .before .before .before .args .l .now) (c .before .before .before .before .before .before .before .before .before .word-at3 .result) ca in
+    let ne : eqb (total (wordAt (c .before .before .before .before .before .before .before .before .before .before .before .before .before .args .l .now)) callParametersAt (wordAt (c .before .before .before .before .before .before .before .before .before .before .before .before .before .args .l .now) 6)) (wordAt (c .before .before .before .before .before .before .before .before .before .before .before .before .before .args .l .now) 7) ≡ false = rw (← c .before .before .before .before .before .before .before .before .before .word-at3 .ensures, ← t, ← c .before .before .before .before .before .before .before .before .word-at4 .ensures) (ne-eqb _ _ (c .if3 .taken)) in
+    sym (entries-parameters (c .before .before .before .before .before .before .before .before .before .before .before .before .before .args .l .now) ne)
+
+cast-spans-ok : tie.Need-cast-spans-ok
+cast-spans-ok c = search needs
+
+spans-ok-requires : tie.Need-spans-ok-requires
+spans-ok-requires c κs =
+    let ca : every (callOk (c .before .before .before .before .before .before .before .before .before .before .before .before .before .args .l .now)) 0 (c .before .before .before .before .before .before .before .before .before .word-at3 .result) ≡ true = sym (c .before .before .before .before .calls-tally .ensures .0) ∙ not-false (c .before .before .before .before .calls-tally .result .ok) (c .before .before .if2 .left) in
+    let t : total (wordAt (c .before .before .before .before .before .before .before .before .before .before .before .before .before .args .l .now)) callParametersAt (c .before .before .before .before .before .before .before .before .before .word-at3 .result) ≡ c .before .before .before .before .before .before .before .before .word-at4 .result = sym (low-parameters (c .before .before .before .before .before .before .before .before .before .before .before .before .before .args .l .now) (c .before .before .before .before .before .before .before .before .before .word-at3 .result) ca) ∙ sym (c .before .before .before .before .calls-tally .ensures .1) ∙ c .if3 .left in
+    ((search needs, search needs), (t, search needs, ca))
+
+cast-sequences-ok : tie.Need-cast-sequences-ok
+cast-sequences-ok c = search needs
+
+sequences-ok-requires : tie.Need-sequences-ok-requires
+sequences-ok-requires c κs =
+    let ev : every (eventOk (c .before .before .before .before .before .before .before .before .before .before .before .before .before .before .before .args .l .now)) 0 (c .before .before .before .before .before .before .before .before .before .before .before .before .word-at2 .result) ≡ true = sym (c .before .before .before .before .before .before .before .before .before .events-tally .ensures .0) ∙ not-false (c .before .before .before .before .before .before .before .before .before .events-tally .result .ok) (c .before .before .before .before .before .before .before .if1 .left) in
+    let t : c .before .before .before .before .before .before .before .before .before .events-tally .result .total ≡ total (wordAt (c .before .before .before .before .before .before .before .before .before .before .before .before .before .before .before .args .l .now)) countsAt (c .before .before .before .before .before .before .before .before .before .before .before .before .word-at2 .result) = c .before .before .before .before .before .before .before .before .before .events-tally .ensures .1 ∙ low-counts (c .before .before .before .before .before .before .before .before .before .before .before .before .before .before .before .args .l .now) (c .before .before .before .before .before .before .before .before .before .before .before .before .word-at2 .result) ev in
+    ((search needs, search needs), (search needs, search needs), (ev, t, rw t (counts-ge (c .before .before .before .before .before .before .before .before .before .before .before .before .before .before .before .args .l .now) (c .before .before .before .before .before .before .before .before .before .before .before .before .word-at2 .result) ev), search needs))
+
+returns-4 : tie.Need-returns-4
+returns-4 c =
+    let ev : every (eventOk (c .before .before .before .before .before .before .before .before .before .before .before .before .before .before .before .before .args .l .now)) 0 (wordAt (c .before .before .before .before .before .before .before .before .before .before .before .before .before .before .before .before .args .l .now) 5) ≡ true = rw (← c .before .before .before .before .before .before .before .before .before .before .before .before .before .word-at2 .ensures) (sym (c .before .before .before .before .before .before .before .before .before .before .events-tally .ensures .0) ∙ not-false (c .before .before .before .before .before .before .before .before .before .before .events-tally .result .ok) (c .before .before .before .before .before .before .before .before .if1 .left)) in
+    let ca : every (callOk (c .before .before .before .before .before .before .before .before .before .before .before .before .before .before .before .before .args .l .now)) 0 (c .before .before .before .before .before .before .before .before .before .before .before .before .word-at3 .result) ≡ true = sym (c .before .before .before .before .before .before .before .calls-tally .ensures .0) ∙ not-false (c .before .before .before .before .before .before .before .calls-tally .result .ok) (c .before .before .before .before .before .if2 .left) in
+    let t : c .before .before .before .before .before .before .before .calls-tally .result .total ≡ total (wordAt (c .before .before .before .before .before .before .before .before .before .before .before .before .before .before .before .before .args .l .now)) callParametersAt (c .before .before .before .before .before .before .before .before .before .before .before .before .word-at3 .result) = c .before .before .before .before .before .before .before .calls-tally .ensures .1 ∙ low-parameters (c .before .before .before .before .before .before .before .before .before .before .before .before .before .before .before .before .args .l .now) (c .before .before .before .before .before .before .before .before .before .before .before .before .word-at3 .result) ca in
+    let eq : eqb (total (wordAt (c .before .before .before .before .before .before .before .before .before .before .before .before .before .before .before .before .args .l .now)) callParametersAt (wordAt (c .before .before .before .before .before .before .before .before .before .before .before .before .before .before .before .before .args .l .now) 6)) (wordAt (c .before .before .before .before .before .before .before .before .before .before .before .before .before .before .before .before .args .l .now) 7) ≡ true = rw (← c .before .before .before .before .before .before .before .before .before .before .before .before .word-at3 .ensures, ← t, ← c .before .before .before .before .before .before .before .before .before .before .before .word-at4 .ensures) (eq-eqb _ _ (c .before .before .before .if3 .left)) in
+    let cw : every (callOk (c .before .before .before .before .before .before .before .before .before .before .before .before .before .before .before .before .args .l .now)) 0 (wordAt (c .before .before .before .before .before .before .before .before .before .before .before .before .before .before .before .before .args .l .now) 6) ≡ true = rw (← c .before .before .before .before .before .before .before .before .before .before .before .before .word-at3 .ensures) ca in
+    rw (c .before .before .spans-ok .ensures, c .sequences-ok .ensures, c .before .before .before .before .before .before .before .before .before .before .before .before .before .before .word-at .ensures, c .before .before .before .before .before .before .before .before .before .before .before .before .before .word-at2 .ensures, c .before .before .before .before .before .before .before .before .before .before .before .before .word-at3 .ensures)
+    (entries-last (c .before .before .before .before .before .before .before .before .before .before .before .before .before .before .before .before .args .l .now) ev cw eq)
 
 pub entries-ok-spec : {M : Type 1} → statement M
 entries-ok-spec =
@@ -80,11 +98,13 @@ entries-ok-spec =
     word-at-requires-3
     cast-calls
     word-at-requires-4
-    cast-parameters
-    events-ok-requires
+    events-tally-requires
     returns
-    calls-ok-requires
+    calls-tally-requires
     returns-2
+    returns-3
+    cast-spans-ok
     spans-ok-requires
+    cast-sequences-ok
     sequences-ok-requires
-    returns-3)
+    returns-4)

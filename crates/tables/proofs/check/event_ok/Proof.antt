@@ -1,13 +1,10 @@
 -- `tables::check::event_ok` meets its contract.
-use Prim.Native.Nat.{_-_}
-use mathlib.Core.Path.{refl}
-use Rattle.tables.specs.Checks.{eventWordsOk}
+use Rattle.tables.proofs.Joined.{joined-event}
 use Rattle.tables.proofs.check.event_ok.Statement.{statement}
 use Rattle.tables.proofs.check.event_ok.Tie as tie
 
 returns : tie.Need-returns
-unfolding eventWordsOk
-returns c = refl
+returns c = joined-event (c .args .code) (c .args .count) (c .args .set) (c .args .clear) (c .args .flags) (c .args .low) (c .args .high)
 
 pub event-ok-spec : {M : Type 1} → statement M
 event-ok-spec = tie.close (tie.spec returns)

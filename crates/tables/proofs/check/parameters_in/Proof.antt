@@ -29,20 +29,14 @@ add-word-at c = search needs
 word-at-requires : tie.Need-word-at-requires Inv-loop μ-loop
 word-at-requires c κs = search needs
 
-cast-start : tie.Need-cast-start Inv-loop μ-loop
-cast-start c = search needs
-
 add-word-at-2 : tie.Need-add-word-at-2 Inv-loop μ-loop
 add-word-at-2 c = search needs
 
 word-at-requires-2 : tie.Need-word-at-requires-2 Inv-loop μ-loop
 word-at-requires-2 c κs = search needs
 
-cast-len : tie.Need-cast-len Inv-loop μ-loop
-cast-len c = search needs
-
-add-ok : tie.Need-add-ok Inv-loop μ-loop
-add-ok c = search needs
+span-ok-requires : tie.Need-span-ok-requires Inv-loop μ-loop
+span-ok-requires c κs = search needs
 
 add-i : tie.Need-add-i Inv-loop μ-loop
 add-i c = search needs
@@ -52,7 +46,7 @@ loop-less c = search needs
 
 loop-again : tie.Need-loop-again Inv-loop μ-loop
 unfolding parameterOk
-loop-again c = (search needs, (search needs, search needs), rw (every-more, c .before .word-at .ensures, c .word-at2 .ensures, c .before .before .before .loop .inv .2))
+loop-again c = (search needs, (search needs, search needs), rw (every-more, c .span-ok .ensures, c .before .before .word-at .ensures, c .before .word-at2 .ensures, c .before .before .before .before .loop .inv .2))
 
 returns : tie.Need-returns Inv-loop μ-loop
 returns c =
@@ -69,11 +63,9 @@ parameters-in-spec =
     add-at
     add-word-at
     word-at-requires
-    cast-start
     add-word-at-2
     word-at-requires-2
-    cast-len
-    add-ok
+    span-ok-requires
     add-i
     loop-less
     loop-again

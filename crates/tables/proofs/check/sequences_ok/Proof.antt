@@ -1,44 +1,67 @@
 -- `tables::check::sequences_ok` meets its contract.
 use borrow.Author.Needs.{needs}
-use Prim.Native.Nat.{_-_}
-use mathlib.Core.Path.{_≡_, sym, _∙_}
+use native.Mathlib.Omega.{arith}
+use Prim.Native.Nat.{_+_, _-_, _*_, _≤_}
+use mathlib.Core.Path.{_≡_, sym, ap, _∙_}
+use mathlib.Core.Bool.{true}
+use lib.Dec.{leb}
+use borrow.Author.Tests.{leb-true}
 use Rattle.words.specs.Words.{wordAt}
-use Rattle.words.specs.Runs.{total}
-use Rattle.tables.proofs.Shortcuts.{plain-productions}
+use Rattle.words.specs.Runs.{every, total}
+use Rattle.words.proofs.Bools.{and-left, and-right}
+use Rattle.tables.specs.Layout.{countsAt}
+use Rattle.tables.specs.Checks.{plainOk, mostEvents}
+use Rattle.tables.proofs.Shortcuts.{plain-sequences}
 use Rattle.tables.proofs.check.sequences_ok.Statement.{statement}
 use Rattle.tables.proofs.check.sequences_ok.Tie as tie
 
-sum-requires : tie.Need-sum-requires
-sum-requires c κs = search needs
+sub-extra : tie.Need-sub-extra
+sub-extra c = search needs
 
-cast-if1 : tie.Need-cast-if1
-cast-if1 c = search needs
+mul-extra : tie.Need-mul-extra
+mul-extra c = search needs
 
-plain-ok-requires : tie.Need-plain-ok-requires
-plain-ok-requires c κs = search needs
+most-events-requires : tie.Need-most-events-requires
+most-events-requires c κs = search needs
+
+productions-tally-requires : tie.Need-productions-tally-requires
+productions-tally-requires c κs = search needs
+
+add-if1 : tie.Need-add-if1
+add-if1 c = search needs
+
+cast-result : tie.Need-cast-result
+cast-result c = search needs
+
+cast-result-2 : tie.Need-cast-result-2
+cast-result-2 c = search needs
 
 returns : tie.Need-returns
 returns c =
-    let ones : total (wordAt (c .before .before .before .before .args .l .now)) 392 (c .before .before .before .before .args .events) ≡ c .before .before .before .before .args .events = sym (c .before .before .sum .ensures) ∙ c .before .if1 .taken in
-    c .plain-ok .ensures ∙ sym (plain-productions (c .before .before .before .before .args .l .now) (c .before .before .before .before .args .events) (c .before .before .before .before .pre .1 .2) ones (c .before .before .before .before .args .n) (c .before .before .before .before .pre .1 .0) (c .before .before .before .before .pre .1 .1))
+    let extra : 3 * (c .before .before .before .before .before .before .before .args .counts - c .before .before .before .before .before .before .before .args .events) ≡ 3 * (total (wordAt (c .before .before .before .before .before .before .before .args .l .now)) countsAt (c .before .before .before .before .before .before .before .args .events) - c .before .before .before .before .before .before .before .args .events) = rw (c .before .before .before .before .before .before .before .pre .2 .1) in
+    let plain : every (plainOk (c .before .before .before .before .before .before .before .args .l .now) (mostEvents (3 * (c .before .before .before .before .before .before .before .args .counts - c .before .before .before .before .before .before .before .args .events)))) 0 (c .before .before .before .before .before .before .before .args .n) ≡ true = rw (← c .before .before .before .before .before .most-events .ensures) (sym (c .before .before .before .before .productions-tally .ensures .0) ∙ and-left (c .before .before .before .before .productions-tally .result .ok) (leb (c .before .before .before .before .before .before .before .args .events + 3 * (c .before .before .before .before .before .before .before .args .counts - c .before .before .before .before .before .before .before .args .events)) 256) (c .before .before .if1 .taken)) in
+    let test = and-right (c .before .before .before .before .productions-tally .result .ok) _ (c .before .before .if1 .taken) in
+    let within : c .before .before .before .before .before .before .before .args .events + 3 * (c .before .before .before .before .before .before .before .args .counts - c .before .before .before .before .before .before .before .args .events) ≤ 256 = omega (arith, leb-true) in
+    rw (c .before .before .before .before .productions-tally .ensures .1, c .before .before .before .before .productions-tally .ensures .2)
+    (plain-sequences (c .before .before .before .before .before .before .before .args .l .now) (c .before .before .before .before .before .before .before .args .events) (c .before .before .before .before .before .before .before .pre .2 .0) (3 * (c .before .before .before .before .before .before .before .args .counts - c .before .before .before .before .before .before .before .args .events)) extra (c .before .before .before .before .before .before .before .args .n) plain (c .before .before .before .before .before .before .before .args .calls) within)
 
-productions-ok-requires : tie.Need-productions-ok-requires
-productions-ok-requires c κs = search needs
-
-sizes-requires : tie.Need-sizes-requires
-sizes-requires c κs = search needs
+exact-ok-requires : tie.Need-exact-ok-requires
+exact-ok-requires c κs = search needs
 
 returns-2 : tie.Need-returns-2
-returns-2 c = rw (c .before .productions-ok .ensures, c .sizes .ensures)
+returns-2 c = search needs
 
 pub sequences-ok-spec : {M : Type 1} → statement M
 sequences-ok-spec =
     tie.close
     (tie.spec
-    sum-requires
-    cast-if1
-    plain-ok-requires
+    sub-extra
+    mul-extra
+    most-events-requires
+    productions-tally-requires
+    add-if1
+    cast-result
+    cast-result-2
     returns
-    productions-ok-requires
-    sizes-requires
+    exact-ok-requires
     returns-2)

@@ -13,13 +13,13 @@ word-at-requires c κs = search needs
 word-at-requires-2 : tie.Need-word-at-requires-2
 word-at-requires-2 c κs = search needs
 
-parameters-in-requires : tie.Need-parameters-in-requires
-parameters-in-requires c κs = search needs
+parameters-within-requires : tie.Need-parameters-within-requires
+parameters-within-requires c κs = search needs
 
 returns : tie.Need-returns
 returns c =
     let z : wordAt (c .before .before .before .before .before .args .l .now) 1 ≡ 0 = sym (c .before .before .before .word-at .ensures) ∙ c .before .before .if1 .taken in
-    c .parameters-in .ensures ∙ rw (c .before .word-at2 .ensures, ← c .before .before .before .before .before .pre .1 .0) (sym (plain-parameters (c .before .before .before .before .before .args .l .now) (c .before .before .before .before .before .args .n) z (c .before .before .before .before .before .pre .1 .2)))
+    c .parameters-within .ensures ∙ rw (c .before .word-at2 .ensures, ← c .before .before .before .before .before .pre .1 .0) (sym (plain-parameters (c .before .before .before .before .before .args .l .now) (c .before .before .before .before .before .args .n) z (c .before .before .before .before .before .pre .1 .2)))
 
 parameters-ok-requires : tie.Need-parameters-ok-requires
 parameters-ok-requires c κs = search needs
@@ -33,7 +33,7 @@ spans-ok-spec =
     (tie.spec
     word-at-requires
     word-at-requires-2
-    parameters-in-requires
+    parameters-within-requires
     returns
     parameters-ok-requires
     returns-2)

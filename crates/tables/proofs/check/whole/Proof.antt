@@ -1,11 +1,10 @@
 -- `tables::check::whole` meets its contract.
 use borrow.Author.Needs.{needs}
 use native.Mathlib.Omega.{arith}
-use Prim.Native.Nat.{_-_}
 use mathlib.Core.Path.{sym, _∙_}
 use borrow.Author.Tests.{not-true, not-false}
-use Rattle.tables.proofs.LoopLaws.{checks-short, checks-header, checks-sums, checks-last}
-use Rattle.tables.proofs.CheckFacts.{HeaderFacts, header-facts, SumFacts, sum-facts}
+use Rattle.tables.proofs.LoopLaws.{checks-short, checks-header, checks-last}
+use Rattle.tables.proofs.CheckFacts.{HeaderFacts, header-facts}
 use Rattle.tables.proofs.Exact.{checks-exact}
 use Rattle.tables.proofs.check.whole.Statement.{statement}
 use Rattle.tables.proofs.check.whole.Tie as tie
@@ -19,27 +18,20 @@ header-ok-requires c κs = search needs
 returns-2 : tie.Need-returns-2
 returns-2 c = sym (checks-header (c .before .before .before .before .args .l .now) (omega arith) (sym (c .before .header-ok .ensures) ∙ not-true (c .before .header-ok .result) (c .if2 .taken))) ∙ checks-exact (c .before .before .before .before .args .l .now) (λ i. omega (arith, c .before .before .before .shared-slice-known .given i))
 
-sums-ok-requires : tie.Need-sums-ok-requires
-sums-ok-requires c κs =
-    let h : HeaderFacts (c .before .before .before .before .args .l .now) = header-facts (c .before .before .before .before .args .l .now) (sym (c .before .header-ok .ensures) ∙ not-false (c .before .header-ok .result) (c .if2 .left)) in
-    (search needs, h .productions, h .calls)
-
-returns-3 : tie.Need-returns-3
-returns-3 c = sym (checks-sums (c .before .before .before .before .before .before .args .l .now) (omega arith) (sym (c .before .before .before .header-ok .ensures) ∙ not-false (c .before .before .before .header-ok .result) (c .before .before .if2 .left)) (sym (c .before .sums-ok .ensures) ∙ not-true (c .before .sums-ok .result) (c .if3 .taken))) ∙ checks-exact (c .before .before .before .before .before .before .args .l .now) (λ i. omega (arith, c .before .before .before .before .before .shared-slice-known .given i))
-
 unused-ok-requires : tie.Need-unused-ok-requires
 unused-ok-requires c κs =
-    let h : HeaderFacts (c .before .before .before .before .before .before .args .l .now) = header-facts (c .before .before .before .before .before .before .args .l .now) (sym (c .before .before .before .header-ok .ensures) ∙ not-false (c .before .before .before .header-ok .result) (c .before .before .if2 .left)) in
+    let h : HeaderFacts (c .before .before .before .before .args .l .now) = header-facts (c .before .before .before .before .args .l .now) (sym (c .before .header-ok .ensures) ∙ not-false (c .before .header-ok .result) (c .if2 .left)) in
     (search needs, (h .productions, h .events, h .calls, h .parameters))
 
 entries-ok-requires : tie.Need-entries-ok-requires
 entries-ok-requires c κs =
-    let h : HeaderFacts (c .before .before .before .before .before .before .before .args .l .now) = header-facts (c .before .before .before .before .before .before .before .args .l .now) (sym (c .before .before .before .before .header-ok .ensures) ∙ not-false (c .before .before .before .before .header-ok .result) (c .before .before .before .if2 .left)) in
-    let s : SumFacts (c .before .before .before .before .before .before .before .args .l .now) = sum-facts (c .before .before .before .before .before .before .before .args .l .now) (sym (c .before .before .sums-ok .ensures) ∙ not-false (c .before .before .sums-ok .result) (c .before .if3 .left)) in
-    (search needs, (h .productions, h .events, h .calls, h .parameters), s .events, s .parameters)
+    let h : HeaderFacts (c .before .before .before .before .before .args .l .now) = header-facts (c .before .before .before .before .before .args .l .now) (sym (c .before .before .header-ok .ensures) ∙ not-false (c .before .before .header-ok .result) (c .before .if2 .left)) in
+    (search needs, (h .productions, h .events, h .calls, h .parameters))
 
-returns-4 : tie.Need-returns-4
-returns-4 c = rw (c .before .unused-ok .ensures, c .entries-ok .ensures) (sym (checks-last (c .before .before .before .before .before .before .before .before .args .l .now) (omega arith) (sym (c .before .before .before .before .before .header-ok .ensures) ∙ not-false (c .before .before .before .before .before .header-ok .result) (c .before .before .before .before .if2 .left)) (sym (c .before .before .before .sums-ok .ensures) ∙ not-false (c .before .before .before .sums-ok .result) (c .before .before .if3 .left))) ∙ checks-exact (c .before .before .before .before .before .before .before .before .args .l .now) (λ i. omega (arith, c .before .before .before .before .before .before .before .shared-slice-known .given i)))
+returns-3 : tie.Need-returns-3
+returns-3 c =
+    rw (c .before .unused-ok .ensures, c .entries-ok .ensures)
+    (sym (checks-last (c .before .before .before .before .before .before .args .l .now) (omega arith) (sym (c .before .before .before .header-ok .ensures) ∙ not-false (c .before .before .before .header-ok .result) (c .before .before .if2 .left))) ∙ checks-exact (c .before .before .before .before .before .before .args .l .now) (λ i. omega (arith, c .before .before .before .before .before .shared-slice-known .given i)))
 
 pub whole-spec : {M : Type 1} → statement M
 whole-spec =
@@ -48,8 +40,6 @@ whole-spec =
     returns
     header-ok-requires
     returns-2
-    sums-ok-requires
-    returns-3
     unused-ok-requires
     entries-ok-requires
-    returns-4)
+    returns-3)

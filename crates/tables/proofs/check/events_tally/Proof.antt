@@ -1,25 +1,32 @@
--- `tables::check::events_ok` meets its contract.
+-- `tables::check::events_tally` meets its contract.
 use borrow.Author.Needs.{needs}
 use native.Mathlib.Omega.{arith}
-use Prim.Native.Nat.{_-_, _≤_}
-use mathlib.Core.Path.{_≡_, refl, _∙_}
-use lib.ListN.{length}
-use Rattle.tables.specs.Checks.{eventOk}
-use Rattle.words.specs.Runs.{every}
-use Rattle.words.proofs.RunLaws.{every-more}
 use native.Mathlib.Nat.{zero-add}
-use Rattle.tables.proofs.check.events_ok.Statement.{statement}
-use Rattle.tables.proofs.check.events_ok.Tie as tie
+use Prim.Native.Nat.{_+_, _-_, _*_, _≤_}
+use mathlib.Core.Path.{_≡_, refl, sym, _∙_}
+use lib.ListN.{length}
+use Rattle.words.specs.Words.{wordAt}
+use Rattle.words.specs.Runs.{every, total}
+use Rattle.words.proofs.RunLaws.{every-more, total-more}
+use Rattle.tables.specs.Layout.{countsAt}
+use Rattle.tables.specs.Checks.{eventOk, lowAt}
+use Rattle.tables.proofs.check.events_tally.Statement.{statement}
+use Rattle.tables.proofs.check.events_tally.Tie as tie
 
 abbrev Inv-loop : tie.InvT-loop
-Inv-loop l n ok₀ i₀ ok i = (i ≤ n) × ((5904 ≤ length l) × (n ≤ 256)) × (ok ≡ every (eventOk l) 0 i)
+Inv-loop l n ok₀ counts₀ i₀ ok counts i =
+    (i ≤ n)
+    × ((5904 ≤ length l) × (n ≤ 256))
+    × (ok ≡ every (eventOk l) 0 i)
+    × (counts ≤ 255 * i)
+    × (counts ≡ total (lowAt l) countsAt i)
 
 abbrev μ-loop : tie.MeasureT-loop
-μ-loop l n ok₀ i₀ ok i = n - i
+μ-loop l n ok₀ counts₀ i₀ ok counts i = n - i
 
 loop-holds : tie.Need-loop-holds Inv-loop μ-loop
-unfolding every
-loop-holds c = (search needs, (search needs, search needs), refl)
+unfolding every total
+loop-holds c = (search needs, (search needs, search needs), refl, search needs, refl)
 
 add-word-at : tie.Need-add-word-at Inv-loop μ-loop
 add-word-at c = search needs
@@ -66,6 +73,9 @@ word-at-requires-7 c κs = search needs
 event-ok-requires : tie.Need-event-ok-requires Inv-loop μ-loop
 event-ok-requires c κs = search needs
 
+add-counts : tie.Need-add-counts Inv-loop μ-loop
+add-counts c = search needs
+
 add-i : tie.Need-add-i Inv-loop μ-loop
 add-i c = search needs
 
@@ -73,16 +83,22 @@ loop-less : tie.Need-loop-less Inv-loop μ-loop
 loop-less c = search needs
 
 loop-again : tie.Need-loop-again Inv-loop μ-loop
-unfolding eventOk
-loop-again c = (search needs, (search needs, search needs), rw (every-more, zero-add, c .event-ok .ensures, c .before .before .before .before .before .before .before .word-at .ensures, c .before .before .before .before .before .before .word-at2 .ensures, c .before .before .before .before .before .word-at3 .ensures, c .before .before .before .before .word-at4 .ensures, c .before .before .before .word-at5 .ensures, c .before .before .word-at6 .ensures, c .before .word-at7 .ensures, c .before .before .before .before .before .before .before .before .before .loop .inv .2))
+unfolding eventOk lowAt
+loop-again c = (
+  search needs,
+  (search needs, search needs),
+  rw (every-more, zero-add, c .event-ok .ensures, c .before .before .before .before .before .before .before .word-at .ensures, c .before .before .before .before .before .before .word-at2 .ensures, c .before .before .before .before .before .word-at3 .ensures, c .before .before .before .before .word-at4 .ensures, c .before .before .before .word-at5 .ensures, c .before .before .word-at6 .ensures, c .before .word-at7 .ensures, c .before .before .before .before .before .before .before .before .before .loop .inv .2),
+  search needs,
+  rw (total-more, ← c .before .before .before .before .before .before .before .before .before .loop .inv .4, c .before .before .before .before .before .before .before .word-at .ensures),
+)
 
 returns : tie.Need-returns Inv-loop μ-loop
 returns c =
     let e : c .before .loop .i ≡ c .before .before .before .args .n = omega arith in
-    c .before .loop .inv .2 ∙ rw e
+    (c .before .loop .inv .2 ∙ rw e, c .before .loop .inv .4 ∙ rw e)
 
-pub events-ok-spec : {M : Type 1} → statement M
-events-ok-spec =
+pub events-tally-spec : {M : Type 1} → statement M
+events-tally-spec =
     tie.close
     (tie.spec
     Inv-loop
@@ -103,6 +119,7 @@ events-ok-spec =
     add-word-at-7
     word-at-requires-7
     event-ok-requires
+    add-counts
     add-i
     loop-less
     loop-again

@@ -1,0 +1,23 @@
+-- `tables::check::most_events` meets its contract.
+use borrow.Author.Needs.{needs}
+use borrow.Author.Tests.{le-leb, lt-leb}
+use Rattle.tables.specs.Checks.{mostEvents}
+use Rattle.tables.proofs.check.most_events.Statement.{statement}
+use Rattle.tables.proofs.check.most_events.Tie as tie
+
+sub-result : tie.Need-sub-result
+sub-result c = search needs
+
+cast-result : tie.Need-cast-result
+cast-result c = search needs
+
+returns : tie.Need-returns
+unfolding mostEvents
+returns c = rw (le-leb _ _ (c .if1 .taken))
+
+returns-2 : tie.Need-returns-2
+unfolding mostEvents
+returns-2 c = rw (lt-leb _ _ (c .if1 .left))
+
+pub most-events-spec : {M : Type 1} → statement M
+most-events-spec = tie.close (tie.spec sub-result cast-result returns returns-2)
