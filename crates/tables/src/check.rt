@@ -110,18 +110,19 @@ pub struct Tally {
     pub total: u16,
 }
 
-// What is only bounded by a power of two, or has to be 0, is joined and tested once.
+// What is only bounded by a power of two, or has to be 0, is joined and tested once. `given` is 1 for flags 4..7, 0 below and
+// more above: where it is not 1, it has to be 0, and so has the detail.
 fn event_ok(code: u16, count: u16, set: u16, clear: u16, flags: u16, low: u16, high: u16) -> bool
     ensures { λ r. ⌜ r ≡ eventWordsOk code count set clear flags low high ⌝ }
 {
+    let given = flags / 4;
     (2 <= code)
         & (code <= 34)
         & (1 <= count)
         & (count <= 9)
-        & ((count <= 1) | (code <= 5))
+        & ((count == 1) | (code <= 5))
         & ((set | clear | high) < 8192)
-        & (flags < 8)
-        & ((4 <= flags) | ((low | high) == 0))
+        & ((given == 1) | ((given | low | high) == 0))
 }
 
 // The events, and the sum of their counts.

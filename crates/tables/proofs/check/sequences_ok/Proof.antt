@@ -4,7 +4,6 @@ use native.Mathlib.Omega.{arith}
 use Prim.Native.Nat.{_+_, _-_, _*_, _≤_}
 use mathlib.Core.Path.{_≡_, sym, ap, _∙_}
 use mathlib.Core.Bool.{true}
-use lib.Dec.{leb}
 use borrow.Author.Tests.{leb-true}
 use Rattle.words.specs.Words.{wordAt}
 use Rattle.words.specs.Runs.{every, total}
@@ -39,7 +38,7 @@ cast-result-2 c = search needs
 returns : tie.Need-returns
 returns c =
     let extra : 3 * (c .before .before .before .before .before .before .before .args .counts - c .before .before .before .before .before .before .before .args .events) ≡ 3 * (total (wordAt (c .before .before .before .before .before .before .before .args .l .now)) countsAt (c .before .before .before .before .before .before .before .args .events) - c .before .before .before .before .before .before .before .args .events) = rw (c .before .before .before .before .before .before .before .pre .2 .1) in
-    let plain : every (plainOk (c .before .before .before .before .before .before .before .args .l .now) (mostEvents (3 * (c .before .before .before .before .before .before .before .args .counts - c .before .before .before .before .before .before .before .args .events)))) 0 (c .before .before .before .before .before .before .before .args .n) ≡ true = rw (← c .before .before .before .before .before .most-events .ensures) (sym (c .before .before .before .before .productions-tally .ensures .0) ∙ and-left (c .before .before .before .before .productions-tally .result .ok) (leb (c .before .before .before .before .before .before .before .args .events + 3 * (c .before .before .before .before .before .before .before .args .counts - c .before .before .before .before .before .before .before .args .events)) 256) (c .before .before .if1 .taken)) in
+    let plain : every (plainOk (c .before .before .before .before .before .before .before .args .l .now) (mostEvents (3 * (c .before .before .before .before .before .before .before .args .counts - c .before .before .before .before .before .before .before .args .events)))) 0 (c .before .before .before .before .before .before .before .args .n) ≡ true = rw (← c .before .before .before .before .before .most-events .ensures) (sym (c .before .before .before .before .productions-tally .ensures .0) ∙ and-left (c .before .before .before .before .productions-tally .result .ok) _ (c .before .before .if1 .taken)) in
     let test = and-right (c .before .before .before .before .productions-tally .result .ok) _ (c .before .before .if1 .taken) in
     let within : c .before .before .before .before .before .before .before .args .events + 3 * (c .before .before .before .before .before .before .before .args .counts - c .before .before .before .before .before .before .before .args .events) ≤ 256 = omega (arith, leb-true) in
     rw (c .before .before .before .before .productions-tally .ensures .1, c .before .before .before .before .productions-tally .ensures .2)
