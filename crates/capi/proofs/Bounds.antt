@@ -1,5 +1,5 @@
 -- The values of each answer are small, so that they have room in one number of 64 bits.
-use Prim.Native.Nat.{ℕ, zero, suc, _+_, _≤_}
+use Prim.Native.Nat.{ℕ, zero, suc, _+_, _≤_, _<_}
 use native.Mathlib.Omega.{arith}
 use mathlib.Core.Path.{_≡_, refl}
 use mathlib.Core.List.{List, [], _∷_, _++_}
@@ -40,15 +40,15 @@ use Rattle.calls.proofs.Located.{name-within, parameter-within}
 abbrev placeAt : Outcome → ℕ
 placeAt o = compiledPlace (outcomeAnswer o)
 
--- a place that is given is at most n
-abbrev AtMost : ℕ → Option ℕ → Type 0
-AtMost n none = Unit
-AtMost n (some p) = p ≤ n
+-- a place that is given is below n
+abbrev pub Below : ℕ → Option ℕ → Type 0
+Below n none = Unit
+Below n (some p) = p < n
 
-earliest-within : (test : ℕ → Bool) (i n : ℕ) (l : List ℕ) → i + length l ≤ n → AtMost n (earliest test i l)
-earliest-within test i n [] h = tt
-earliest-within test i n (x ∷ xs) h =
-    cond-both (AtMost n) (test x) (some i) (earliest test (suc i) xs) (λ _. omega arith) (λ _. earliest-within test (suc i) n xs (omega arith))
+pub earliest-below : {A : Type 0} (test : A → Bool) (i n : ℕ) (l : List A) → i + length l ≤ n → Below n (earliest test i l)
+earliest-below test i n [] h = tt
+earliest-below test i n (x ∷ xs) h =
+    cond-both (Below n) (test x) (some i) (earliest test (suc i) xs) (λ _. omega arith) (λ _. earliest-below test (suc i) n xs (omega arith))
 
 module _ (text : List ℕ) where
   Next : (ℕ → Directive → List Production → Outcome) → Type 0
@@ -80,14 +80,14 @@ module _ (text : List ℕ) where
   lines-place (suc fuel) at d ps h =
       after-directive at d ps (directiveAt text at) (λ p e qs. linesFrom fuel text p e qs) h (λ p e qs q. lines-place fuel p e qs q)
 
-  bytes-place : (r : Option ℕ) → AtMost (length text) r → placeAt (afterBytes text r) ≤ length text
+  bytes-place : (r : Option ℕ) → Below (length text) r → placeAt (afterBytes text r) ≤ length text
   unfolding linesOf
-  bytes-place (some place) f = f
+  bytes-place (some place) f = omega arith
   bytes-place none f = lines-place (length text + 1) 0 Directive.Replace [] (omega arith)
 
-  bad-byte-within : AtMost (length text) (firstBadByte text)
+  bad-byte-within : Below (length text) (firstBadByte text)
   unfolding firstBadByte
-  bad-byte-within = earliest-within (λ (b : ℕ). not (isAllowed b)) 0 (length text) text (omega arith)
+  bad-byte-within = earliest-below (λ (b : ℕ). not (isAllowed b)) 0 (length text) text (omega arith)
 
   compiled-place : placeAt (compiled text) ≤ 8192
   unfolding compiled

@@ -1,2 +1,5 @@
 pub mod Bounds
 pub mod Words
+pub mod StateBytes
+pub mod StateLaws
+pub mod Matches

@@ -1,1 +1,4 @@
 pub mod Answers
+pub mod State
+pub mod Laws
+pub mod Match

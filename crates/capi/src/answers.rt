@@ -2,11 +2,13 @@
 use model::answers::Compiled;
 use model::answers::Counted;
 use model::answers::Located;
+use model::answers::Matched;
 use model::answers::Merged;
 use model::answers::Written;
 ghost use mathlib.Core.Path.{_≡_};
 ghost use Prim.Native.Nat.{_+_, _*_, _≤_, _<_};
-ghost use Rattle.model.specs.Numbers.{compiledPlace, writtenLength, countedCount, locatedStart, locatedLength};
+ghost use Rattle.model.specs.Numbers.{compiledPlace, writtenLength, countedCount, locatedStart, locatedLength, matchedSelection};
+ghost use Rattle.capi.specs.Match.{selectionMark, matchedWord};
 ghost use Rattle.capi.specs.Answers.{compiledWord, mergedWord, writtenWord, countedWord, locatedWord};
 
 fn wide(b: u8) -> u64
@@ -78,5 +80,17 @@ pub fn located_word(a: Located) -> u64
         Located::First { start, len } => part_word(0, start, len),
         Located::Second { start, len } => part_word(1, start, len),
         Located::Refused(number) => wide(number),
+    }
+}
+
+pub fn matched_word(a: Matched) -> u64
+    requires { ⌜ selectionMark (matchedSelection a) ≤ 64 ⌝ }
+    ensures { λ r. ⌜ r ≡ matchedWord a ⌝ }
+{
+    match a {
+        Matched::Refused(number) => wide(number),
+        Matched::Dropped => 0,
+        Matched::Heard => 0,
+        Matched::Selected(production) => with_value(0, production + 1),
     }
 }

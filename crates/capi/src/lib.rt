@@ -1,6 +1,7 @@
 // The library for C: each function takes numbers and byte slices, a slice being a pointer and a length. Any bytes may be
 // lent. include/glykorant.h declares them.
 mod answers;
+mod state;
 
 ghost use mathlib.Core.Path.{_≡_};
 ghost use Rattle.tables.specs.Layout.{tableLength};
@@ -8,6 +9,8 @@ ghost use Rattle.compiler.specs.Compile.{compiledBytes};
 ghost use Rattle.merger.specs.Merge.{mergeAnswer, mergedBytes};
 ghost use Rattle.printer.specs.Write.{written, writtenBytes};
 ghost use Rattle.calls.specs.Answers.{productionsAnswer, callsAnswer, parametersAnswer, nameAnswer, parameterAnswer};
+ghost use Rattle.capi.specs.State.{stateLength};
+ghost use Rattle.capi.specs.Match.{freshNumber, freshBytes, matchedWord, matchedOn, stateLeft};
 ghost use Rattle.capi.specs.Answers.{compileAnswer, compiledWord, mergedWord, writtenWord, countedWord, locatedWord};
 
 // ---- Lengths
@@ -17,6 +20,13 @@ pub extern "C" fn tt_table_length() -> usize
     ensures { λ r. ⌜ r ≡ tableLength ⌝ }
 {
     tables::TABLE_LENGTH
+}
+
+#[no_mangle]
+pub extern "C" fn tt_state_length() -> usize
+    ensures { λ r. ⌜ r ≡ stateLength ⌝ }
+{
+    state::STATE_LENGTH
 }
 
 // ---- Tables
@@ -100,4 +110,42 @@ pub extern "C" fn tt_parameter(
         call,
         parameter,
     ))
+}
+
+// ---- Matching
+
+// Leaves a fresh state, which holds no events.
+#[no_mangle]
+pub extern "C" fn tt_fresh(state: &mut [u8]) -> u64
+    ensures { λ r. ⌜ r ≡ freshNumber (now (state .entry)) ⌝ }
+    ensures { λ r. ⌜ now (state .exit) ≡ freshBytes (now (state .entry)) ⌝ }
+{
+    if state.len() < state::STATE_LENGTH {
+        return 1;
+    }
+    words::clear(state, state::STATE_LENGTH);
+    0
+}
+
+// One event. The state is loaded, and stored again only where the event is heard.
+#[no_mangle]
+pub extern "C" fn tt_match(
+    table: &[u8],
+    map: &[u8],
+    time: u32,
+    state: &mut [u8],
+    record: &[u8],
+    order: u8,
+) -> u64
+    ensures { λ r. ⌜ r ≡ matchedWord (matchedOn (now (table .entry)) (now (map .entry)) time (now (state .entry)) (now («record» .entry)) order) ⌝ }
+    ensures { λ r. ⌜ now (state .exit) ≡ stateLeft (now (table .entry)) (now (map .entry)) time (now (state .entry)) (now («record» .entry)) order ⌝ }
+{
+    if state.len() < state::STATE_LENGTH {
+        return 1;
+    }
+    let answer = matcher::match_event(table, map, time, state::load_state(state), record, order);
+    let matched = answer.matched;
+    let next = answer.state;
+    state::keep(state, matched, next);
+    answers::matched_word(matched)
 }

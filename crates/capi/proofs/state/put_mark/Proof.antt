@@ -1,0 +1,49 @@
+-- `capi::state::put_mark` meets its contract.
+use native.Mathlib.Omega.{arith}
+use lib.ListN.{length-set}
+use Rattle.words.specs.Words.{putWord}
+use borrow.Author.Needs.{needs}
+use Rattle.capi.proofs.state.put_mark.Statement.{statement}
+use Rattle.capi.proofs.state.put_mark.Tie as tie
+
+cast-out : tie.Need-cast-out
+cast-out c = search needs
+
+mul-out : tie.Need-mul-out
+mul-out c = search needs
+
+slice-write-out : tie.Need-slice-write-out
+slice-write-out c = search needs
+
+cast-out-2 : tie.Need-cast-out-2
+cast-out-2 c = search needs
+
+mul-out-2 : tie.Need-mul-out-2
+mul-out-2 c = search needs
+
+add-out : tie.Need-add-out
+add-out c = search needs
+
+slice-write-out-2 : tie.Need-slice-write-out-2
+slice-write-out-2 c = simp length-set (omega arith)
+
+same-length : tie.Need-same-length
+same-length c = search needs
+
+returns : tie.Need-returns
+unfolding putWord
+returns c = search needs
+
+pub put-mark-spec : {M : Type 1} → statement M
+put-mark-spec =
+    tie.close
+    (tie.spec
+    cast-out
+    mul-out
+    slice-write-out
+    cast-out-2
+    mul-out-2
+    add-out
+    slice-write-out-2
+    same-length
+    returns)

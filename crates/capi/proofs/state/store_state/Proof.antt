@@ -1,0 +1,38 @@
+-- `capi::state::store_state` meets its contract.
+use mathlib.Core.Path.{ap, _∙_}
+use Prim.Native.Nat.{ℕ}
+use mathlib.Core.List.{List}
+use lib.Seq.{paste}
+use Rattle.capi.proofs.StateBytes.{state-stored}
+use borrow.Author.Needs.{needs}
+use Rattle.capi.proofs.state.store_state.Statement.{statement}
+use Rattle.capi.proofs.state.store_state.Tie as tie
+
+store-marks-requires : tie.Need-store-marks-requires
+store-marks-requires c κs = search needs
+
+slice-aggregate-store-events : tie.Need-slice-aggregate-store-events
+slice-aggregate-store-events c = search needs
+
+store-events-requires : tie.Need-store-events-requires
+store-events-requires c κs = search needs
+
+same-length : tie.Need-same-length
+same-length c = search needs
+
+returns : tie.Need-returns
+returns c =
+    let a = c .before .before .before .before .before .before .before .before .before .before .before .args in
+    c .before .before .store-events .ensures
+    ∙ ap (λ (l : List ℕ). paste l 8 (a .s .events) 192) (c .before .before .before .before .before .before .before .store-marks .ensures)
+    ∙ state-stored (a .s) (a .out .now)
+
+pub store-state-spec : {M : Type 1} → statement M
+store-state-spec =
+    tie.close
+    (tie.spec
+    store-marks-requires
+    slice-aggregate-store-events
+    store-events-requires
+    same-length
+    returns)
