@@ -3,3 +3,5 @@ pub mod Words
 pub mod StateBytes
 pub mod StateLaws
 pub mod Matches
+pub mod Demand
+pub mod CallLaws

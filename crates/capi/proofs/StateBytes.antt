@@ -88,9 +88,13 @@ drop-marks : (ws rest : List ℕ) (n : ℕ) → length ws ≡ 4 → drop (8 + n)
 drop-marks ws rest n e =
     ap (λ (k : ℕ). drop (k + n) (bytesOf ws ++ rest)) (sym (length-marks ws e)) ∙ drop-append-add (bytesOf ws) rest n
 
-pub state-stored : (s : State) (l : List ℕ) → paste (bytesOf (marksOf s) ++ drop 8 l) 8 (s .events) 192 ≡ store s ++ drop 200 l
+stored-over : (s : State) (l : List ℕ) → paste (bytesOf (marksOf s) ++ drop 8 l) 8 (s .events) 192 ≡ store s ++ drop 200 l
 unfolding store
-state-stored s l =
+stored-over s l =
     ap₂ (λ (a b : List ℕ). a ++ take 192 (s .events) ++ b)
     (take-at (bytesOf (marksOf s)) (drop 8 l) 8 (length-marks (marksOf s) refl))
     (drop-marks (marksOf s) (drop 8 l) 192 refl ∙ drop-drop 192 8 l)
+
+pub state-stored : (s : State) (l marked out : List ℕ) → marked ≡ bytesOf (marksOf s) ++ drop 8 l → out ≡ paste marked 8 (s .events) 192
+    → out ≡ store s ++ drop 200 l
+state-stored s l marked out e f = f ∙ ap (λ (m : List ℕ). paste m 8 (s .events) 192) e ∙ stored-over s l

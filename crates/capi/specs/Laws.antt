@@ -1,12 +1,20 @@
--- What loading and storing a state owe each other, for every state and all bytes. Shown in proofs/StateLaws.
+-- What loading and storing a state owe each other, for every state and all bytes, and what a call does to a state's bytes.
+-- Shown in proofs/StateLaws and proofs/CallLaws.
 use Prim.Native.Nat.{ℕ, _≤_, _<_}
 use mathlib.Core.Path.{_≡_}
-use mathlib.Core.Bool.{true}
+use mathlib.Core.Bool.{true, false}
 use mathlib.Core.List.{List, _++_}
+use mathlib.Core.Option.{none}
 use lib.ListN.{length, getD, drop}
+use Rattle.model.specs.Numbers.{stateNotWhole, matchedNumber, matchedSelection}
+use Rattle.model.specs.declared.answers.Matched.{Matched}
+use Rattle.keyboard.specs.Maps.{mapNumbers}
+use Rattle.tables.specs.Whole.{whole}
 use Rattle.matcher.specs.declared.state.State.{State}
 use Rattle.matcher.specs.State.{wholeState}
+use Rattle.matcher.specs.Match.{tooShort}
 use Rattle.capi.specs.State.{stateLength, store, load}
+use Rattle.capi.specs.Match.{matchedOn, stateLeft}
 
 pub record StateLaws : Type 0 where
   -- the bytes of a state are 200
@@ -16,3 +24,25 @@ pub record StateLaws : Type 0 where
   -- bytes that load to a whole state are its store: with `back`, exactly those that begin with the store of a whole state
   pub exact : (l : List ℕ) → ((i : ℕ) → getD l i 0 < 256) → stateLength ≤ length l → wholeState (load l) ≡ true
       → l ≡ store (load l) ++ drop stateLength l
+
+-- ---- One call of `tt_match`, on any bytes
+
+pub record CallLaws (table keyboard : List ℕ) (limit : ℕ) (state bytes : List ℕ) (order : ℕ) : Type 0 where
+  -- "Every .. state that an accepted call gives is whole"
+  pub accepted :
+      matchedNumber (matchedOn table keyboard limit state bytes order) ≡ 0
+      → wholeState (load (stateLeft table keyboard limit state bytes order)) ≡ true
+  -- "A refused matcher call keeps the state and selects none."
+  pub refused :
+      (matchedNumber (matchedOn table keyboard limit state bytes order) ≡ 0 → ⊥)
+      → (matchedSelection (matchedOn table keyboard limit state bytes order) ≡ none)
+      × (stateLeft table keyboard limit state bytes order ≡ state)
+  -- 14, exactly where no lent buffer is short, the table is whole, and the bytes load to no whole state
+  pub notWhole :
+      stateLength ≤ length state → tooShort table (mapNumbers keyboard) ≡ false → whole table ≡ true
+      → wholeState (load state) ≡ false → matchedOn table keyboard limit state bytes order ≡ Matched.Refused stateNotWhole
+  -- bytes past the state stay
+  pub past : drop stateLength (stateLeft table keyboard limit state bytes order) ≡ drop stateLength state
+
+abbrev pub EveryCall : Type 0
+EveryCall = (table keyboard : List ℕ) (limit : ℕ) (state bytes : List ℕ) (order : ℕ) → CallLaws table keyboard limit state bytes order

@@ -2,3 +2,4 @@ pub mod Answers
 pub mod State
 pub mod Laws
 pub mod Match
+pub mod Demand

@@ -81,10 +81,10 @@ fn store_events(out: &mut [u8], events: &[u8])
     requires { ⌜ (200 ≤ length (now out)) × (length (now events) ≡ 200) ⌝ }
     ensures { λ r. ⌜ now (out .exit) ≡ take 8 (now (out .entry)) ++ take 192 (now (events .entry)) ++ drop 200 (now (out .entry)) ⌝ }
 {
-    let mut i: usize = 0;
-    while i < 192 {
-        out[8 + i] = events[i];
-        i += 1;
+    let mut j: usize = 0;
+    while j < 192 {
+        out[8 + j] = events[j];
+        j += 1;
     }
 }
 

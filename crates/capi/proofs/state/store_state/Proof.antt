@@ -1,8 +1,4 @@
 -- `capi::state::store_state` meets its contract.
-use mathlib.Core.Path.{ap, _∙_}
-use Prim.Native.Nat.{ℕ}
-use mathlib.Core.List.{List}
-use lib.Seq.{paste}
 use Rattle.capi.proofs.StateBytes.{state-stored}
 use borrow.Author.Needs.{needs}
 use Rattle.capi.proofs.state.store_state.Statement.{statement}
@@ -23,9 +19,7 @@ same-length c = search needs
 returns : tie.Need-returns
 returns c =
     let a = c .before .before .before .before .before .before .before .before .before .before .before .args in
-    c .before .before .store-events .ensures
-    ∙ ap (λ (l : List ℕ). paste l 8 (a .s .events) 192) (c .before .before .before .before .before .before .before .store-marks .ensures)
-    ∙ state-stored (a .s) (a .out .now)
+    state-stored (a .s) (a .out .now) _ _ (c .before .before .before .before .before .before .before .store-marks .ensures) (c .before .before .store-events .ensures)
 
 pub store-state-spec : {M : Type 1} → statement M
 store-state-spec =

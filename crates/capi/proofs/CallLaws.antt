@@ -1,0 +1,134 @@
+-- What one call of `tt_match` does to the lent bytes of a state, whatever they are.
+use Prim.Native.Nat.{ℕ, _≤_, _<_}
+use native.Mathlib.Omega.{arith}
+use borrow.Author.Tests.{lt-ltb, le-ltb, ltb-true, ltb-false, eq-eqb, not-false}
+use mathlib.Core.Path.{_≡_, refl, sym, ap, _∙_}
+use mathlib.Core.Bool.{Bool, true, false, not, false≢true}
+use mathlib.Core.List.{List, _++_}
+use mathlib.Core.Option.{none}
+use lib.Dec.{eqb, ltb}
+use lib.ListN.{length, drop}
+use lib.Seq.{drop-at}
+use Rattle.model.specs.Numbers.{matchOrder, matchedNumber, matchedSelection}
+use Rattle.model.specs.Records.{isBadRecord, recordRead}
+use Rattle.model.specs.Demand.{MatchCall}
+use Rattle.model.specs.declared.answers.Matched.{Matched}
+use Rattle.machine.specs.Kept.{passesContext}
+use Rattle.keyboard.specs.Maps.{mapNumbers}
+use Rattle.tables.specs.Reading.{decode}
+use Rattle.tables.specs.Whole.{whole}
+use Rattle.tables.proofs.Positions.{cond-both}
+use Rattle.matcher.specs.declared.state.State.{State}
+use Rattle.matcher.specs.State.{wholeState, keptOf}
+use Rattle.matcher.specs.Match.{refusedWith, tooShort, matchNumber, callAnswer}
+use Rattle.matcher.proofs.StateLaws.{state-facts}
+use Rattle.capi.specs.State.{stateLength, store, load}
+use Rattle.capi.specs.Match.{stored, keeps, leftBy, matchedOn, stateLeft}
+use Rattle.capi.specs.Laws.{CallLaws, EveryCall}
+use Rattle.capi.proofs.StateLaws.{length-store}
+use Rattle.capi.proofs.Demand.{Holds, given, answer-is, left-is, left-kept, given-whole, left-good}
+
+-- the state's check passes where none refuses
+state-passes : (a b c d e : Bool) → eqb (matchOrder a b c d e) 0 ≡ true → c ≡ false
+state-passes true b c d e q = absurd (false≢true q)
+state-passes false true c d e q = absurd (false≢true q)
+state-passes false false true d e q = absurd (false≢true q)
+state-passes false false false d e q = refl
+
+-- a refused call selects none
+selects-none : (a : Matched) → (matchedNumber a ≡ 0 → ⊥) → matchedSelection a ≡ none
+selects-none (Matched.Refused n) f = refl
+selects-none Matched.Dropped f = absurd (f refl)
+selects-none Matched.Heard f = absurd (f refl)
+selects-none (Matched.Selected p) f = absurd (f refl)
+
+past-left : (l : List ℕ) (a : Matched) (s : State) → wholeState s ≡ true → drop 200 (leftBy a s l) ≡ drop 200 l
+unfolding leftBy
+past-left l a s w =
+    cond-both (λ (x : List ℕ). drop 200 x ≡ drop 200 l) (keeps a) l (stored s l)
+    (λ _. refl) (λ _. drop-at (store s) (drop 200 l) 200 (length-store s (state-facts s w)))
+
+module _ (table keyboard : List ℕ) (limit : ℕ) (l : List ℕ) (c : MatchCall) where
+  abbrev matched : Matched
+  matched = matchedOn table keyboard limit l (c .bytes) (c .order)
+
+  abbrev left : List ℕ
+  left = stateLeft table keyboard limit l (c .bytes) (c .order)
+
+  abbrev number : ℕ
+  number = matchNumber table (mapNumbers keyboard) limit (load l) c
+
+  -- ---- A short state
+
+  module _ (h : length l < 200) where
+    short-left : left ≡ l
+    unfolding stateLeft
+    short-left = rw (lt-ltb (length l) 200 h)
+
+    short-number : matchedNumber matched ≡ 1
+    unfolding matchedOn
+    short-number = rw (lt-ltb (length l) 200 h)
+
+  -- ---- A state that is long enough
+
+  module _ (h : 200 ≤ length l) where
+    -- no number: the bytes hold a whole state
+    holds : eqb number 0 ≡ true → Holds l
+    unfolding matchNumber
+    holds e =
+        record {
+          long = h;
+          isWhole = not-false (wholeState (load l))
+              (state-passes (tooShort table (mapNumbers keyboard)) (not (whole table)) (not (wholeState (load l))) (isBadRecord (c .bytes) (c .order))
+              (passesContext (decode table) (mapNumbers keyboard) limit (keptOf (load l)) (recordRead (c .bytes) (c .order))) e);
+        }
+
+    refused-answer : eqb number 0 ≡ false → given table keyboard limit l c ≡ refusedWith number (load l)
+    unfolding callAnswer
+    refused-answer e = rw e
+
+    refused-number : eqb number 0 ≡ false → matchedNumber matched ≡ 0 → ⊥
+    refused-number e z =
+        let q : matchedNumber matched ≡ number = ap matchedNumber (answer-is table keyboard limit l c h ∙ ap (λ a. a .matched) (refused-answer e)) in
+        false≢true (sym e ∙ eq-eqb number 0 (sym q ∙ z))
+
+    past-stored : Holds l → drop 200 left ≡ drop 200 l
+    past-stored g =
+        let a = given table keyboard limit l c in
+        ap (drop 200) (left-is table keyboard limit l c h) ∙ past-left l (a .matched) (a .state) (given-whole table keyboard limit l c g)
+
+    long-accepted : (b : Bool) → eqb number 0 ≡ b → matchedNumber matched ≡ 0 → wholeState (load left) ≡ true
+    long-accepted true e z = left-good table keyboard limit l c (holds e) .isWhole
+    long-accepted false e z = absurd (refused-number e z)
+
+    long-past : (b : Bool) → eqb number 0 ≡ b → drop 200 left ≡ drop 200 l
+    long-past true e = past-stored (holds e)
+    long-past false e = ap (drop 200) (left-kept table keyboard limit l c h (refused-number e))
+
+    not-whole : tooShort table (mapNumbers keyboard) ≡ false → whole table ≡ true → wholeState (load l) ≡ false → matched ≡ Matched.Refused 14
+    unfolding callAnswer matchNumber
+    not-whole a b d = answer-is table keyboard limit l c h ∙ rw (a, b, d)
+
+  -- ---- Any state
+
+  accepted-by : (b : Bool) → ltb (length l) 200 ≡ b → matchedNumber matched ≡ 0 → wholeState (load left) ≡ true
+  accepted-by true e z = let k = short-number (ltb-true (length l) 200 e) in absurd (omega arith)
+  accepted-by false e z = long-accepted (ltb-false (length l) 200 e) (eqb number 0) refl z
+
+  refused-by : (b : Bool) → ltb (length l) 200 ≡ b → (matchedNumber matched ≡ 0 → ⊥) → left ≡ l
+  refused-by true e f = short-left (ltb-true (length l) 200 e)
+  refused-by false e f = left-kept table keyboard limit l c (ltb-false (length l) 200 e) f
+
+  past-by-length : (b : Bool) → ltb (length l) 200 ≡ b → drop 200 left ≡ drop 200 l
+  past-by-length true e = ap (drop 200) (short-left (ltb-true (length l) 200 e))
+  past-by-length false e = long-past (ltb-false (length l) 200 e) (eqb number 0) refl
+
+pub every-call : EveryCall
+every-call table keyboard limit state bytes order =
+    let c : MatchCall = record { bytes = bytes; order = order } in
+    record {
+      accepted = λ z. accepted-by table keyboard limit state c (ltb (length state) 200) refl z;
+      refused = λ f. (selects-none (matchedOn table keyboard limit state bytes order) f, refused-by table keyboard limit state c (ltb (length state) 200) refl f);
+      notWhole = λ h a b d. not-whole table keyboard limit state c h a b d;
+      past = past-by-length table keyboard limit state c (ltb (length state) 200) refl;
+    }

@@ -1,0 +1,63 @@
+-- Demand 3, about `tt_match`: its calls are made on the bytes of a table and of a keyboard map, its states are lent bytes, and
+-- each call returns one number. `Demand3` and what it speaks of are in crates/model/specs/Demand and Selection; `matchedOn`,
+-- `matchedWord`, `stateLeft` and `freshBytes` are what the contracts of `tt_match` and `tt_fresh` say, for all input.
+use Prim.Native.Nat.{ℕ, _-_, _/_, _%_, _≤_}
+use mathlib.Core.Path.{_≡_}
+use mathlib.Core.Bool.{cond}
+use mathlib.Core.List.{List, [], _∷_, _++_, map}
+use mathlib.Core.Option.{Option, none, some}
+use lib.Dec.{eqb}
+use lib.ListN.{length}
+use Rattle.model.specs.Numbers.{matchedNumber, matchedSelection}
+use Rattle.model.specs.Tables.{Table}
+use Rattle.model.specs.Demand.{MatchCall, Matcher, Accepted, namedFrom, Demand3}
+use Rattle.keyboard.specs.Maps.{mapNumbers}
+use Rattle.tables.specs.Layout.{encode}
+use Rattle.capi.specs.State.{stateLength}
+use Rattle.capi.specs.Match.{freshBytes, matchedWord, matchedOn, stateLeft}
+
+-- ---- What a call returns
+
+-- document 01's number, and the production that is selected
+abbrev pub numberIn : ℕ → ℕ
+numberIn word = word % 256
+
+abbrev pub selectionIn : ℕ → Option ℕ
+selectionIn word = cond (eqb (word / 256) 0) none (some (word / 256 - 1))
+
+-- ---- Calls of `tt_match` on one table, map and multi-click time, from what `tt_fresh` leaves in lent bytes
+
+module _ (table keyboard : List ℕ) (limit : ℕ) where
+  abbrev pub matcherOnStates : List ℕ → Matcher (List ℕ)
+  matcherOnStates lent =
+      record {
+        fresh = freshBytes lent;
+        answer = λ state c. matchedOn table keyboard limit state (c .bytes) (c .order);
+        next = λ state c. stateLeft table keyboard limit state (c .bytes) (c .order);
+      }
+
+  -- what the calls return, one after the other
+  unfoldable pub wordsFrom : List ℕ → List MatchCall → List ℕ
+  wordsFrom state [] = []
+  wordsFrom state (c ∷ cs) =
+      matchedWord (matchedOn table keyboard limit state (c .bytes) (c .order))
+      ∷ wordsFrom (stateLeft table keyboard limit state (c .bytes) (c .order)) cs
+
+-- about one list of calls
+pub record OnStates (table keyboard : List ℕ) (limit : ℕ) (lent : List ℕ) (t : Table) (cs : List MatchCall) : Type 0 where
+  -- the answers that are returned as numbers, and the bytes between the calls, meet demand 3
+  pub demand : Demand3 (matcherOnStates table keyboard limit lent) t (mapNumbers keyboard) limit cs
+  -- and the numbers that are returned tell the number and the selection that the rules name, at every call
+  pub numbers :
+      map numberIn (wordsFrom table keyboard limit (freshBytes lent) cs)
+      ≡ map matchedNumber (namedFrom t (mapNumbers keyboard) limit [] cs)
+  pub selections :
+      map selectionIn (wordsFrom table keyboard limit (freshBytes lent) cs)
+      ≡ map matchedSelection (namedFrom t (mapNumbers keyboard) limit [] cs)
+
+-- for every accepted table, lent as its bytes with any bytes after them, any bytes as the map, one multi-click time, any lent
+-- bytes that are long enough for a state, and every list of calls
+abbrev pub Demand3OnStates : Type 0
+Demand3OnStates =
+    (t : Table) → Accepted t → (after keyboard : List ℕ) (limit : ℕ) (lent : List ℕ) → stateLength ≤ length lent
+    → (cs : List MatchCall) → OnStates (encode t ++ after) keyboard limit lent t cs
