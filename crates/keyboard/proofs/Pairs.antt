@@ -64,14 +64,14 @@ module _ (set clear a b state detail : ℕ) where
 
 -- ---- Letters
 
-in-range : (low k high : ℕ) → inRange low k high ≡ true → (low ≤ k) × (k ≤ high)
+pub in-range : (low k high : ℕ) → inRange low k high ≡ true → (low ≤ k) × (k ≤ high)
 in-range low k high e = go (leb low k) refl
   where
     go : (t : Bool) → leb low k ≡ t → (low ≤ k) × (k ≤ high)
     go true q = (leb-true low k q, leb-true k high (ap (λ (t : Bool). t && leb k high) (sym q) ∙ e))
     go false q = absurd (false≢true (ap (λ (t : Bool). t && leb k high) (sym q) ∙ e))
 
-either : {P : Type 0} (a b : Bool) → (a ≡ true → P) → (b ≡ true → P) → a || b ≡ true → P
+pub either : {P : Type 0} (a b : Bool) → (a ≡ true → P) → (b ≡ true → P) → a || b ≡ true → P
 either true b f g e = f refl
 either false b f g e = g e
 

@@ -3,6 +3,7 @@ ghost use mathlib.Core.Path.{_≡_};
 ghost use Prim.Native.Nat.{_+_, _≤_, _<_};
 ghost use lib.ListN.{length};
 ghost use Rattle.model.specs.Keyboard.{isLower, isUpper, upper, lower, picked, keysymOf};
+ghost use Rattle.keyboard.specs.Folds.{fold, folded};
 ghost use Rattle.keyboard.specs.Maps.{numberFrom, mapNumbers};
 ghost use Rattle.keyboard.specs.Pairs.{pairAt, lockGives, pairGives, pairAsked};
 
@@ -137,4 +138,18 @@ pub fn pair_matches(
     let cares_shift = modifiers::bit(0, set) | modifiers::bit(0, clear);
     let cares_lock = modifiers::bit(1, set) | modifiers::bit(1, clear);
     pair_gives(a, b, cares_shift, shift, cares_lock, lock, detail)
+}
+
+// A word without bit 5, in which the two cases of a letter differ.
+pub fn fold(w: u16) -> u16
+    ensures { λ r. ⌜ r ≡ fold w ⌝ }
+{
+    w - 32 * (w / 32 % 2)
+}
+
+// The low word of a keysym, folded: a quick first comparison, in which all the keysyms that a pair gives count as its two.
+pub fn folded(k: u32) -> u16
+    ensures { λ r. ⌜ r ≡ folded k ⌝ }
+{
+    fold((k % 65536) as u16)
 }

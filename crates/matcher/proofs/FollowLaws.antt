@@ -2,7 +2,7 @@
 use Prim.Native.Nat.{ℕ, suc, _+_, _-_, _≤_, _<_}
 use native.Mathlib.Omega.{arith}
 use native.Mathlib.Numerals.{add-one}
-use borrow.Author.Tests.{le-ltb, eqb-false}
+use borrow.Author.Tests.{le-ltb}
 use mathlib.Core.Path.{_≡_, refl, sym, ap, ap₂, _∙_}
 use mathlib.Core.Bool.{Bool, true, false, cond}
 use mathlib.Core.Option.{Option, none, some}
@@ -20,7 +20,7 @@ use Rattle.tables.specs.Reading.{eventAt}
 use Rattle.matcher.specs.declared.walk.Followed.{Followed}
 use Rattle.matcher.specs.State.{zeroEvent}
 use Rattle.matcher.specs.Walk.{elementOf, fitsAfter, walked, sizeIn}
-use Rattle.matcher.proofs.EventLaws.{fits-other, fits-same}
+use Rattle.matcher.proofs.EventLaws.{fits-same}
 
 -- ---- Elements
 
@@ -155,7 +155,7 @@ module _ (map : List ℕ) (limit : ℕ) (l : List ℕ) (last : ℕ) (events : Li
 -- ---- The walk of a production
 
 module _ (map : List ℕ) (limit : ℕ) (l : List ℕ) (first n : ℕ) (events : List Event) (from to : ℕ) where
-  abbrev target : Followed
+  abbrev pub target : Followed
   target = walked map limit none none (expanded (run (eventAt l) first n)) (drop from (take to events))
 
   -- where the walk stands: at element k of event i, and at event j of the stretch
@@ -248,12 +248,3 @@ module _ (map : List ℕ) (limit : ℕ) (l : List ℕ) (first n : ℕ) (events :
       let b : from ≤ to = omega arith in
       let d : first < first + n = omega arith in
       walks-no room first 0 from (walks-start h b) d m from (λ z. absurd (omega arith)) r e q
-
-  -- the first code is another
-  pub walks-another : length events ≡ 25 → to ≤ 25 → from < to → 1 ≤ n
-      → eqb (elementOf (eventAt l first) 0 .code) (getD events from zeroEvent .code) ≡ false → target ≡ Followed.No
-  walks-another h room m o q =
-      walks-other h room m o
-      (fitsAfter map limit (getD events from zeroEvent .time) (elementOf (eventAt l first) 0) (getD events from zeroEvent)) refl
-      (fits-other map limit (getD events from zeroEvent .time) (eventAt l first) 0 (getD events from zeroEvent)
-      (eqb-false (elementOf (eventAt l first) 0 .code) (getD events from zeroEvent .code) q))

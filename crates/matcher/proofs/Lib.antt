@@ -4,6 +4,7 @@ pub mod TableFacts
 pub mod EventLaws
 pub mod FollowLaws
 pub mod PassLaws
+pub mod FilterLaws
 pub mod TypeLaws
 pub mod MoveLaws
 pub mod MatchLaws

@@ -1,5 +1,5 @@
 -- One pass over the productions finds what model's rules ask of the table.
-use Prim.Native.Nat.{ℕ, suc, _+_, _-_, _≤_, _<_}
+use Prim.Native.Nat.{ℕ, zero, suc, _+_, _-_, _≤_, _<_}
 use native.Mathlib.Omega.{arith}
 use native.Mathlib.Numerals.{add-one}
 use borrow.Author.Tests.{eq-eqb, ne-eqb, eqb-true, eqb-false}
@@ -203,6 +203,19 @@ module _ (map : List ℕ) (limit : ℕ) (l : List ℕ) (xs : List Event) where
       → r ≡ Followed.Whole → onward p seen ≡ Passed.Chosen p
   onward-whole p seen r h e q =
       onward-step p seen h ∙ ap (λ (s : Followed). passNext s p (onward (p + 1) seen) (onward (p + 1) true)) (sym e ∙ q)
+
+-- a table none of whose productions the stretch reads as a prefix of
+module _ (map : List ℕ) (limit : ℕ) (l : List ℕ) (xs : List Event)
+    (h : (p : ℕ) → p < productionCount l → followed map limit xs (productionAt l p) ≡ Followed.No) where
+  onward-none : (k p : ℕ) → p + k ≡ productionCount l → onward map limit l xs p false ≡ Passed.No
+  onward-none zero p e = onward-end map limit l xs p false (omega arith)
+  onward-none (suc k) p e =
+      let b : p < productionCount l = omega arith in
+      onward-no map limit l xs p false (followed map limit xs (productionAt l p)) b refl (h p b)
+      ∙ onward-none k (p + 1) (omega arith)
+
+  pub passed-none : passed (decode l) map limit xs ≡ Passed.No
+  passed-none = onward-start map limit l xs ∙ onward-none (productionCount l) 0 (omega arith)
 
 pub next-events : (l : List ℕ) (p : ℕ) → eventsFrom l (p + 1) ≡ eventsFrom l p + productionEvents l p
 unfolding eventsFrom productionEvents

@@ -7,6 +7,7 @@ ghost use Rattle.keyboard.specs.Maps.{mapNumbers};
 ghost use Rattle.matcher.specs.State.{wholeState};
 ghost use Rattle.matcher.specs.Match.{tooShort, refusedWith, matchAnswer};
 
+mod filter;
 mod moves;
 mod reader;
 pub mod state;

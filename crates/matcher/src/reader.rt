@@ -7,9 +7,9 @@ ghost use Rattle.matcher.specs.Walk.{flagsIn, valueIn};
 
 // The first word of each field's section.
 
-const CODES: usize = 136;
+pub const CODES: usize = 136;
 
-const COUNTS: usize = 392;
+pub const COUNTS: usize = 392;
 
 const SETS: usize = 648;
 
@@ -17,7 +17,7 @@ const CLEARS: usize = 904;
 
 const FLAGS: usize = 1160;
 
-const LOWS: usize = 1416;
+pub const LOWS: usize = 1416;
 
 const HIGHS: usize = 1672;
 

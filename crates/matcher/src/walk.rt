@@ -2,9 +2,8 @@
 ghost use mathlib.Core.Path.{_≡_};
 ghost use mathlib.Core.Bool.{true};
 ghost use mathlib.Core.Option.{none};
-ghost use Prim.Native.Nat.{_+_, _-_, _≤_, _<_};
-ghost use lib.Dec.{eqb};
-ghost use lib.ListN.{length, take, drop};
+ghost use Prim.Native.Nat.{ℕ, _+_, _-_, _≤_, _<_};
+ghost use lib.ListN.{length, getD, take, drop};
 ghost use Rattle.records.specs.Ranges.{EventRanges};
 ghost use Rattle.tables.specs.Reading.{eventCount, eventAt, decode};
 ghost use Rattle.tables.specs.Whole.{whole};
@@ -14,8 +13,11 @@ ghost use Rattle.model.specs.Lists.{any};
 ghost use Rattle.model.specs.Matching.{hasType, readingOf};
 ghost use Rattle.machine.specs.Kept.{longestEnd};
 ghost use Rattle.keyboard.specs.Maps.{mapNumbers};
-ghost use Rattle.matcher.specs.State.{slotsOf};
+ghost use Rattle.matcher.specs.State.{zeroEvent, slotsOf};
+ghost use Rattle.matcher.specs.Filter.{soughtOf};
 ghost use Rattle.matcher.specs.Walk.{eventMeets, detailAsked, elementOf, fitsAfter, walked, sizeIn, Ready, passed, passedIn, eventHas};
+use crate::filter;
+use crate::filter::Sought;
 use crate::reader;
 use crate::state;
 use model::events::Event;
@@ -171,30 +173,27 @@ fn follow(
     }
 }
 
-// The first element of event i has this code.
-fn starts(table: &[u8], i: usize, code: u8) -> bool
-    requires { ⌜ (whole (now table) ≡ true) × (i < eventCount (now table)) ⌝ }
-    ensures { λ r. ⌜ r ≡ eqb (elementOf (eventAt (now (table .entry)) i) 0 .code) code ⌝ }
-{
-    let own = reader::code_at(table, i);
-    let count = reader::count_at(table, i);
-    counts::element_code(own, count, 0) == code
-}
-
-// Events from..to against every production, in order. One whose first element has another code than the first event is
-// passed over at once.
-pub fn pass(table: &[u8], map: &[u8], limit: u32, events: &[u8], from: usize, to: usize) -> Passed
-    requires { ⌜ Ready (now table) (mapNumbers (now map)) (now events) to × (from < to) ⌝ }
+// Events from..to against every production, in order. One whose first event does not pass the quick test for the first of
+// them is passed over at once.
+fn scan(
+    table: &[u8],
+    map: &[u8],
+    limit: u32,
+    events: &[u8],
+    from: usize,
+    to: usize,
+    one: Sought,
+) -> Passed
+    requires { ⌜ Ready (now table) (mapNumbers (now map)) (now events) to × (from < to) × (one ≡ soughtOf (mapNumbers (now map)) (getD (slotsOf (now events)) from zeroEvent)) ⌝ }
     ensures { λ r. ⌜ r ≡ passed (decode (now (table .entry))) (mapNumbers (now (map .entry))) limit (drop from (take to (slotsOf (now (events .entry))))) ⌝ }
 {
     let n = tables::read::production_count(table);
-    let code = state::event_at(events, from).code;
     let mut seen = false;
     let mut at: usize = 0;
     let mut p: usize = 0;
     while p < n {
         let size = tables::read::production_events(table, p);
-        if starts(table, at, code) {
+        if filter::seems(table, at, one) {
             match follow(table, map, limit, at, size, events, from, to) {
                 Followed::Whole => {
                     return Passed::Chosen(p);
@@ -215,6 +214,30 @@ pub fn pass(table: &[u8], map: &[u8], limit: u32, events: &[u8], from: usize, to
         }
     }
     if seen { Passed::Prefix } else { Passed::No }
+}
+
+// What the second event of a stretch asks of the table's. Of a stretch of one event nothing is asked, so it may be anything.
+fn second_sought(map: &[u8], events: &[u8], from: usize, to: usize, one: Sought) -> Sought
+    requires { ⌜ ((length (mapNumbers (now map)) ≡ 496) × (length (now events) ≡ 200)) × ((from < to) × (to ≤ 25) × (one .code ≤ 34)) × ((j : ℕ) → j < to → EventRanges (getD (slotsOf (now events)) j zeroEvent)) ⌝ }
+    ensures { λ r. ⌜ (r .code ≤ 34) × (from + 1 < to → r ≡ soughtOf (mapNumbers (now (map .entry))) (getD (slotsOf (now (events .entry))) (from + 1) zeroEvent)) ⌝ }
+{
+    if from + 1 < to {
+        return filter::sought_of(map, state::event_at(events, from + 1));
+    }
+    one
+}
+
+// The same. Where the quick test finds no event of the table with which a production could begin, none is looked at.
+pub fn pass(table: &[u8], map: &[u8], limit: u32, events: &[u8], from: usize, to: usize) -> Passed
+    requires { ⌜ Ready (now table) (mapNumbers (now map)) (now events) to × (from < to) ⌝ }
+    ensures { λ r. ⌜ r ≡ passed (decode (now (table .entry))) (mapNumbers (now (map .entry))) limit (drop from (take to (slotsOf (now (events .entry))))) ⌝ }
+{
+    let one = filter::sought_of(map, state::event_at(events, from));
+    let two = second_sought(map, events, from, to, one);
+    if filter::none_begins(table, one, from + 1 == to, two) {
+        return Passed::No;
+    }
+    scan(table, map, limit, events, from, to, one)
 }
 
 // The smallest start from `from` on at which the events up to `to` read as a prefix, or `to`.

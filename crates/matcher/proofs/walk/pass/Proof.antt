@@ -1,218 +1,81 @@
 -- `matcher::walk::pass` meets its contract.
-use Prim.Native.Nat.{ℕ, _-_, _≤_, _<_}
+use Prim.Native.Nat.{_+_, _≤_, _<_}
 use native.Mathlib.Omega.{arith}
 use mathlib.Core.Path.{_≡_, refl, sym, ap, _∙_}
-use mathlib.Core.Bool.{Bool, cond}
-use mathlib.Core.Option.{none}
-use mathlib.Core.List.{List}
 use denote.Ref.{now}
 use lib.Dec.{eqb}
-use lib.ListN.{getD, take, drop}
-use Rattle.words.specs.Runs.{run}
+use lib.ListN.{getD}
+use Rattle.words.specs.Runs.{every}
 use Rattle.keyboard.specs.Maps.{mapNumbers}
-use Rattle.model.specs.Counts.{expanded}
-use Rattle.model.specs.declared.events.Event.{Event}
-use Rattle.tables.specs.Reading.{productionCount, eventAt}
-use Rattle.matcher.specs.declared.walk.Followed.{Followed}
-use Rattle.matcher.specs.declared.walk.Passed.{Passed}
+use Rattle.tables.specs.Reading.{eventCount}
+use Rattle.matcher.specs.declared.filter.Sought.{Sought}
 use Rattle.matcher.specs.State.{zeroEvent, slotsOf}
-use Rattle.matcher.specs.Walk.{elementOf, walked}
+use Rattle.matcher.specs.Filter.{soughtOf, cannotBegin}
 use Rattle.matcher.proofs.TableFacts.{table-facts}
 use Rattle.matcher.proofs.SlotLaws.{length-slots, in-slot}
-use Rattle.matcher.proofs.FollowLaws.{walks-another}
-use Rattle.matcher.proofs.PassLaws.{Passing, passing-start, passing-no, passing-prefix, passing-whole, passing-end, Place, place-of}
-use borrow.Author.Needs.{needs}
+use Rattle.matcher.proofs.FilterLaws.{sought-below, none-passes}
 use Rattle.matcher.proofs.walk.pass.Statement.{statement}
 use Rattle.matcher.proofs.walk.pass.Tie as tie
 
-abbrev Inv-loop : tie.InvT-loop
-Inv-loop table map limit events from to n code seen₀ at₀ p₀ seen at p =
-    Passing (mapNumbers map) limit table (drop from (take to (slotsOf events))) seen at p
+-- the event that was read is that in slot `from`
+read-is : (c : tie.After-event-at) → c .event-at .result ≡ getD (slotsOf (now (c .before .before .before .before .args .events))) (c .before .before .before .before .args .from) zeroEvent
+read-is c =
+    let m : c .before .before .before .before .args .from < 25 = omega (arith, c .before .before .before .before .pre .0 .room, c .before .before .before .before .pre .1) in
+    c .event-at .ensures ∙ in-slot (now (c .before .before .before .before .args .events)) (c .before .before .before .before .args .from) m
 
-abbrev μ-loop : tie.MeasureT-loop
-μ-loop table map limit events from to n code seen₀ at₀ p₀ seen at p = n - p
+sought-is : (c : tie.After-sought-of)
+    → c .sought-of .result ≡ soughtOf (mapNumbers (now (c .before .before .before .before .before .args .map))) (getD (slotsOf (now (c .before .before .before .before .before .args .events))) (c .before .before .before .before .before .args .from) zeroEvent)
+sought-is c = c .sought-of .ensures ∙ ap (soughtOf (mapNumbers (now (c .before .before .before .before .before .args .map)))) (read-is (c .before))
 
--- where the production's events stand
-place : (c : tie.After-production-events Inv-loop μ-loop) → Place (now (c .before .before .before .before .before .before .before .before .args .table)) (c .before .before .loop .at) (c .before .before .loop .p) (c .production-events .result)
-place c =
-    let l = now (c .before .before .before .before .before .before .before .before .args .table) in
-    let v = c .before .before .loop in
-    place-of l (table-facts l (c .before .before .before .before .before .before .before .before .pre .0 .isWhole)) (v .at) (v .p) (c .production-events .result) (c .before .before .before .before .production-count .result)
-    (c .before .before .before .before .production-count .ensures) (c .before .loop-test .taken) (v .inv .place) (c .production-events .ensures)
-
--- the stretch
-abbrev stretch : (c : tie.After-production-events Inv-loop μ-loop) → List Event
-stretch c = let a = c .before .before .before .before .before .before .before .before .args in drop (a .from) (take (a .to) (slotsOf (now (a .events))))
-
-abbrev walk : (c : tie.After-production-events Inv-loop μ-loop) → Followed
-walk c =
-    let a = c .before .before .before .before .before .before .before .before .args in
-    walked (mapNumbers (now (a .map))) (a .limit) none none (expanded (run (eventAt (now (a .table))) (c .before .before .loop .at) (c .production-events .result))) (stretch c)
-
--- its first code is another
-another : (c : tie.Else1 Inv-loop μ-loop) → walk (c .before .before) ≡ Followed.No
-another c =
-    let a = c .before .before .before .before .before .before .before .before .before .before .args in
-    let p = c .before .before .before .before .before .before .before .before .before .before .pre in
-    let m : a .from < 25 = omega (arith, p .0 .room, p .1) in
-    let e : c .before .before .before .before .before .event-at .result ≡ getD (slotsOf (now (a .events))) (a .from) zeroEvent
-    = c .before .before .before .before .before .event-at .ensures ∙ in-slot (now (a .events)) (a .from) m in
-    walks-another (mapNumbers (now (a .map))) (a .limit) (now (a .table)) (c .before .before .before .before .loop .at) (c .before .before .production-events .result) (slotsOf (now (a .events))) (a .from) (a .to)
-    (length-slots (now (a .events))) (p .0 .room) (p .1) (place (c .before .before) .some)
-    (ap (λ (x : Event). eqb (elementOf (eventAt (now (a .table)) (c .before .before .before .before .loop .at)) 0 .code) (x .code)) (sym e) ∙ sym (c .before .starts .ensures) ∙ c .if1 .left)
-
-production-count-requires : tie.Need-production-count-requires Inv-loop μ-loop
-production-count-requires c κs = table-facts _ (c .before .before .before .pre .0 .isWhole) .long
-
-event-at-requires : tie.Need-event-at-requires Inv-loop μ-loop
-event-at-requires c κs = omega (arith, c .before .before .before .before .pre .0 .room, c .before .before .before .before .pre .0 .long, c .before .before .before .before .pre .1)
-
-loop-holds : tie.Need-loop-holds Inv-loop μ-loop
-loop-holds c =
+below : (c : tie.After-sought-of) → c .sought-of .result .code ≤ 34
+below c =
     let a = c .before .before .before .before .before .args in
-    passing-start (mapNumbers (now (a .map))) (a .limit) (now (a .table)) (drop (a .from) (take (a .to) (slotsOf (now (a .events)))))
+    sought-below (mapNumbers (now (a .map))) (getD (slotsOf (now (a .events))) (a .from) zeroEvent) (c .before .before .before .before .before .pre .0 .ranges (a .from) (c .before .before .before .before .before .pre .1)) (c .sought-of .result) (sought-is c)
 
-production-events-requires : tie.Need-production-events-requires Inv-loop μ-loop
-production-events-requires c κs =
-    let f = table-facts _ (c .before .before .before .before .before .before .before .pre .0 .isWhole) in
-    let h : c .before .loop .p < 64 = omega (arith, f .productions, c .before .before .before .production-count .ensures) in
-    (f .long, h)
+event-at-requires : tie.Need-event-at-requires
+event-at-requires c κs = omega (arith, c .before .before .before .pre .0 .room, c .before .before .before .pre .0 .long, c .before .before .before .pre .1)
 
-starts-requires : tie.Need-starts-requires Inv-loop μ-loop
-starts-requires c κs =
-    let g = place c in
-    ((c .before .before .before .before .before .before .before .before .pre .0 .isWhole), omega arith)
+sought-of-requires : tie.Need-sought-of-requires
+sought-of-requires c κs = (c .before .before .before .before .pre .0 .mapped, rw (read-is c) (c .before .before .before .before .pre .0 .ranges (c .before .before .before .before .args .from) (c .before .before .before .before .pre .1)))
 
-follow-requires : tie.Need-follow-requires Inv-loop μ-loop
-follow-requires c κs =
-    let p = c .before .before .before .before .before .before .before .before .before .before .pre in
-    let m = p .1 in
-    let b : c .before .before .before .before .before .before .before .before .before .before .args .from ≤ c .before .before .before .before .before .before .before .before .before .before .args .to = omega arith in
-    (p .0, b, place (c .before .before) .within)
+second-sought-requires : tie.Need-second-sought-requires
+second-sought-requires c κs =
+    let p = c .before .before .before .before .before .pre in
+    ((p .0 .mapped, p .0 .long), (p .1, p .0 .room, below c), p .0 .ranges)
 
-enum-told : tie.Need-enum-told Inv-loop μ-loop
-enum-told c = search needs
+add-none-begins : tie.Need-add-none-begins
+add-none-begins c = omega (arith, c .before .before .before .before .before .before .pre .0 .room, c .before .before .before .before .before .before .pre .1)
 
-returns : tie.Need-returns Inv-loop μ-loop
+none-begins-requires : tie.Need-none-begins-requires
+none-begins-requires c κs = (c .before .before .before .before .before .before .pre .0 .isWhole, below (c .before), c .second-sought .ensures .0)
+
+returns : tie.Need-returns
 returns c =
-    let a = c .before .before .before .before .before .before .before .before .before .before .before .before .before .args in
-    let v = c .before .before .before .before .before .before .before .loop in
-    let g = place (c .before .before .before .before .before) in
-    sym (passing-whole (mapNumbers (now (a .map))) (a .limit) (now (a .table)) (stretch (c .before .before .before .before .before)) (v .seen) (v .at) (v .p) (c .before .before .before .before .before .production-events .result) (v .inv) (g .there) (g .isSize)
-    (c .before .before .follow .result) (c .before .before .follow .ensures) (c .enum-told .given .1))
-
-enum-told-2 : tie.Need-enum-told-2 Inv-loop μ-loop
-enum-told-2 c = search needs
-
-add-at : tie.Need-add-at Inv-loop μ-loop
-add-at c =
-    let g = place (c .before .before .before .before .before) in
-    omega (arith, g .small)
-
-add-p : tie.Need-add-p Inv-loop μ-loop
-add-p c =
-    let g = place (c .before .before .before .before .before) in
-    omega (arith, g .few)
-
-loop-less : tie.Need-loop-less Inv-loop μ-loop
-loop-less c = omega (arith, c .before .before .before .before .before .before .loop-test .taken)
-
-loop-again : tie.Need-loop-again Inv-loop μ-loop
-loop-again c =
-    let a = c .before .before .before .before .before .before .before .before .before .before .before .before .before .args in
-    let v = c .before .before .before .before .before .before .before .loop in
-    let g = place (c .before .before .before .before .before) in
-    passing-prefix (mapNumbers (now (a .map))) (a .limit) (now (a .table)) (stretch (c .before .before .before .before .before)) (v .seen) (v .at) (v .p) (c .before .before .before .before .before .production-events .result) (v .inv) (g .there) (g .isSize)
-    (c .before .before .follow .result) (c .before .before .follow .ensures) (c .enum-told2 .given .1)
-
-enum-told-3 : tie.Need-enum-told-3 Inv-loop μ-loop
-enum-told-3 c = search needs
-
-add-at-2 : tie.Need-add-at-2 Inv-loop μ-loop
-add-at-2 c =
-    let g = place (c .before .before .before .before .before) in
-    omega (arith, g .small)
-
-add-p-2 : tie.Need-add-p-2 Inv-loop μ-loop
-add-p-2 c =
-    let g = place (c .before .before .before .before .before) in
-    omega (arith, g .few)
-
-loop-less-2 : tie.Need-loop-less-2 Inv-loop μ-loop
-loop-less-2 c = omega (arith, c .before .before .before .before .before .before .loop-test .taken)
-
-loop-again-2 : tie.Need-loop-again-2 Inv-loop μ-loop
-loop-again-2 c =
-    let a = c .before .before .before .before .before .before .before .before .before .before .before .before .before .args in
-    let v = c .before .before .before .before .before .before .before .loop in
-    let g = place (c .before .before .before .before .before) in
-    passing-no (mapNumbers (now (a .map))) (a .limit) (now (a .table)) (stretch (c .before .before .before .before .before)) (v .seen) (v .at) (v .p) (c .before .before .before .before .before .production-events .result) (v .inv) (g .there) (g .isSize)
-    (c .before .before .follow .result) (c .before .before .follow .ensures) (c .enum-told3 .given .1)
-
-add-at-3 : tie.Need-add-at-3 Inv-loop μ-loop
-add-at-3 c =
-    let g = place (c .before .before) in
-    omega (arith, g .small)
-
-add-p-3 : tie.Need-add-p-3 Inv-loop μ-loop
-add-p-3 c =
-    let g = place (c .before .before) in
-    omega (arith, g .few)
-
-loop-less-3 : tie.Need-loop-less-3 Inv-loop μ-loop
-loop-less-3 c = omega (arith, c .before .before .before .loop-test .taken)
-
-loop-again-3 : tie.Need-loop-again-3 Inv-loop μ-loop
-loop-again-3 c =
-    let a = c .before .before .before .before .before .before .before .before .before .before .args in
-    let v = c .before .before .before .before .loop in
-    let g = place (c .before .before) in
-    passing-no (mapNumbers (now (a .map))) (a .limit) (now (a .table)) (stretch (c .before .before)) (v .seen) (v .at) (v .p) (c .before .before .production-events .result) (v .inv) (g .there) (g .isSize)
-    (walk (c .before .before)) refl (another c)
-
-returns-2 : tie.Need-returns-2 Inv-loop μ-loop
-returns-2 c =
     let a = c .before .before .before .before .before .before .before .before .args in
-    let v = c .before .before .loop in
-    let h : productionCount (now (a .table)) ≤ v .p = omega (arith, c .before .before .before .before .production-count .ensures, c .before .loop-test .left) in
-    sym (passing-end (mapNumbers (now (a .map))) (a .limit) (now (a .table)) (drop (a .from) (take (a .to) (slotsOf (now (a .events))))) (v .seen) (v .at) (v .p) (v .inv) h
-    ∙ ap (λ (s : Bool). cond s Passed.Prefix Passed.No) (c .if2 .taken))
+    let p = c .before .before .before .before .before .before .before .before .pre in
+    let l = now (a .table) in
+    let m = mapNumbers (now (a .map)) in
+    let xs = slotsOf (now (a .events)) in
+    sym
+    (none-passes m (a .limit) l (table-facts l (p .0 .isWhole)) (λ k. omega (arith, c .before .before .before .before .before .before .before .shared-slice-known .given k)) xs (a .from) (a .to) (length-slots (now (a .events))) (p .0 .room) (p .1) (p .0 .ranges)
+    (eqb (a .from + 1) (a .to)) (c .before .before .second-sought .result) refl (c .before .before .second-sought .ensures .1)
+    (ap (λ (s : Sought). every (cannotBegin l s (eqb (a .from + 1) (a .to)) (c .before .before .second-sought .result)) 0 (eventCount l)) (sym (sought-is (c .before .before .before))) ∙ sym (c .before .none-begins .ensures) ∙ c .if1 .taken))
 
-returns-3 : tie.Need-returns-3 Inv-loop μ-loop
-returns-3 c =
-    let a = c .before .before .before .before .before .before .before .before .args in
-    let v = c .before .before .loop in
-    let h : productionCount (now (a .table)) ≤ v .p = omega (arith, c .before .before .before .before .production-count .ensures, c .before .loop-test .left) in
-    sym (passing-end (mapNumbers (now (a .map))) (a .limit) (now (a .table)) (drop (a .from) (take (a .to) (slotsOf (now (a .events))))) (v .seen) (v .at) (v .p) (v .inv) h
-    ∙ ap (λ (s : Bool). cond s Passed.Prefix Passed.No) (c .if2 .left))
+scan-requires : tie.Need-scan-requires
+scan-requires c κs = (c .before .before .before .before .before .before .before .before .pre .0, c .before .before .before .before .before .before .before .before .pre .1, sought-is (c .before .before .before))
+
+returns-2 : tie.Need-returns-2
+returns-2 c = c .scan .ensures
 
 pub pass-spec : {M : Type 1} → statement M
 pass-spec =
     tie.close
     (tie.spec
-    Inv-loop
-    μ-loop
-    production-count-requires
     event-at-requires
-    loop-holds
-    production-events-requires
-    starts-requires
-    follow-requires
-    enum-told
+    sought-of-requires
+    second-sought-requires
+    add-none-begins
+    none-begins-requires
     returns
-    enum-told-2
-    add-at
-    add-p
-    loop-less
-    loop-again
-    enum-told-3
-    add-at-2
-    add-p-2
-    loop-less-2
-    loop-again-2
-    add-at-3
-    add-p-3
-    loop-less-3
-    loop-again-3
-    returns-2
-    returns-3)
+    scan-requires
+    returns-2)

@@ -1,0 +1,251 @@
+-- An event that begins a production along which a stretch reads as a prefix passes the quick test.
+use Prim.Native.Nat.{ℕ, suc, _+_, _-_, _*_, _%_, _≤_, _<_}
+use native.Mathlib.Omega.{arith}
+use native.Mathlib.Nat.{zero-add}
+use borrow.Author.Tests.{eqb-true, eqb-false, eq-eqb, ltb-true, ltb-false, le-leb}
+use mathlib.Core.Path.{_≡_, refl, sym, ap, _∙_}
+use mathlib.Core.Bool.{Bool, true, false, cond, not, _&&_, _||_, false≢true, true≢false}
+use mathlib.Core.List.{List, [], _∷_}
+use mathlib.Core.Option.{none}
+use lib.Dec.{eqb, leb, ltb}
+use lib.ListN.{length, getD, take, drop}
+use Rattle.words.specs.Words.{wordAt}
+use Rattle.words.specs.Runs.{run, every}
+use Rattle.words.proofs.Bools.{and-left, and-both, or-no-left, or-no-right, chain-parts}
+use Rattle.words.proofs.RunLaws.{every-at}
+use Rattle.keyboard.specs.Folds.{fold, folded}
+use Rattle.keyboard.proofs.Folds.{asked-in}
+use Rattle.model.specs.Counts.{expanded, quick}
+use Rattle.model.specs.Matching.{detailMet}
+use Rattle.model.specs.Keyboard.{firstKeysym, secondKeysym}
+use Rattle.model.specs.Modifiers.{stateMeets}
+use Rattle.model.specs.declared.events.Event.{Event}
+use Rattle.records.specs.Ranges.{EventRanges}
+use Rattle.counts.specs.Elements.{releases, elementCount, elementCode}
+use Rattle.tables.specs.Layout.{codesAt, countsAt, lowsAt, highsAt}
+use Rattle.tables.specs.Reading.{isFlag, eventOf, eventAt, eventCount, productionCount, productionEvents, eventsFrom, productionAt, decode}
+use Rattle.matcher.specs.declared.filter.Sought.{Sought}
+use Rattle.matcher.specs.declared.walk.Followed.{Followed}
+use Rattle.matcher.specs.declared.walk.Passed.{Passed}
+use Rattle.matcher.specs.State.{zeroEvent}
+use Rattle.matcher.specs.Walk.{eventMeets, detailAsked, flagsIn, valueIn, elementOf, fitsAfter, sizeIn, walked, followed, passed}
+use Rattle.matcher.specs.Filter.{soughtOf, codeSeems, detailSeems, seems, begins, cannotBegin}
+use Rattle.matcher.proofs.TableFacts.{EntryFacts, TableFacts}
+use Rattle.matcher.proofs.EventLaws.{meets-detail}
+use Rattle.matcher.proofs.FollowLaws.{target, Walks, walks-start, walks-other, walks-over, walks-no, walks-turn}
+use Rattle.matcher.proofs.PassLaws.{production-walk, passed-none}
+
+or-true : (a : Bool) → a || true ≡ true
+or-true true = refl
+or-true false = refl
+
+-- ---- The code
+
+first-code : (own count : ℕ) (s : Sought) → 2 ≤ own → elementCode own count 0 ≡ s .code → codeSeems own s ≡ true
+unfolding elementCode codeSeems
+first-code own count s h e = go (leb count 1) refl
+  where
+    same : own ≡ s .code → (eqb own (s .code) || eqb own (s .code + 1)) ≡ true
+    same q = rw (eq-eqb own (s .code) q)
+
+    less : own - 1 ≡ s .code → (eqb own (s .code) || eqb own (s .code + 1)) ≡ true
+    less q =
+        let p : own ≡ s .code + 1 = omega arith in
+        rw (eq-eqb own (s .code + 1) p) (or-true (eqb own (s .code)))
+
+    kind : (t : Bool) → releases own ≡ t → leb count 1 ≡ false → (eqb own (s .code) || eqb own (s .code + 1)) ≡ true
+    kind true q r = less (sym (rw (r, q)) ∙ e)
+    kind false q r = same (sym (rw (r, q)) ∙ e)
+
+    go : (t : Bool) → leb count 1 ≡ t → (eqb own (s .code) || eqb own (s .code + 1)) ≡ true
+    go true q = same (sym (rw q) ∙ e)
+    go false q = kind (releases own) refl q
+
+-- ---- The detail
+
+-- the bytes of a table are bytes
+abbrev pub Bytes : List ℕ → Type 0
+Bytes l = (k : ℕ) → getD l k 0 < 256
+
+word-below : (l : List ℕ) → Bytes l → (k : ℕ) → wordAt l k < 65536
+unfolding wordAt
+word-below l b k = omega (arith, b (2 * k), b (2 * k + 1))
+
+low-is : (l : List ℕ) → Bytes l → (i : ℕ) → folded (valueIn l i) ≡ fold (wordAt l (lowsAt + i))
+unfolding folded valueIn
+low-is l b i =
+    let h = word-below l b (lowsAt + i) in
+    let e : (wordAt l (lowsAt + i) + 65536 * wordAt l (highsAt + i)) % 65536 ≡ wordAt l (lowsAt + i) = omega arith in
+    ap fold e
+
+sought-code : (map : List ℕ) (x : Event) → x .code ≡ soughtOf map x .code
+unfolding soughtOf
+sought-code map x = refl
+
+-- what is sought has the code of an event
+pub sought-below : (map : List ℕ) (x : Event) → EventRanges x → (s : Sought) → s ≡ soughtOf map x → s .code ≤ 34
+unfolding soughtOf
+sought-below map x r s e = rw e (r .code-most)
+
+state-part : (map l : List ℕ) (i : ℕ) (x : Event) → eventMeets map (eventAt l i) x ≡ true
+    → stateMeets (eventAt l i .set) (eventAt l i .clear) (isFlag 2 (flagsIn l i)) (x .state) ≡ true
+unfolding eventMeets eventAt eventOf flagsIn
+state-part map l i x m =
+    and-left (stateMeets (eventAt l i .set) (eventAt l i .clear) (isFlag 2 (flagsIn l i)) (x .state)) (detailMet map (eventAt l i) (eventAt l i .detail) x) m
+
+module _ (map : List ℕ) (x : Event) where
+  none-asked : (low : ℕ) → low ≡ 0 → detailSeems (fold low) (soughtOf map x) ≡ true
+  unfolding detailSeems fold
+  none-asked low e = rw e
+
+  or-assoc : (a b c : Bool) → (b || c) ≡ true → (a || b || c) ≡ true
+  or-assoc true b c e = refl
+  or-assoc false b c e = e
+
+  asked : (set clear : ℕ) (colon : Bool) (value : ℕ) → detailAsked map set clear colon value x ≡ true
+      → detailSeems (folded value) (soughtOf map x) ≡ true
+  unfolding detailAsked detailSeems soughtOf
+  asked set clear colon value e = go (leb (x .code) 3) refl
+    where
+      go : (t : Bool) → leb (x .code) 3 ≡ t → detailSeems (folded value) (soughtOf map x) ≡ true
+      go true q =
+          rw q
+          (or-assoc (eqb (folded value) 0) (eqb (folded value) (folded (firstKeysym map (x .detail)))) (eqb (folded value) (folded (secondKeysym map (x .detail))))
+          (asked-in (firstKeysym map (x .detail)) (secondKeysym map (x .detail)) value set clear colon (x .state) (rw q at e)))
+      go false q =
+          let p : x .detail ≡ value = eqb-true (x .detail) value (rw q at e) in
+          rw (q, p, eq-eqb (folded value) (folded value) refl) (or-assoc (eqb (folded value) 0) true true refl)
+
+  module _ (l : List ℕ) (b : Bytes l) (i : ℕ) (f : EntryFacts l i) (r : EventRanges x) where
+    detail-seems : eventMeets map (eventAt l i) x ≡ true → detailSeems (fold (wordAt l (lowsAt + i))) (soughtOf map x) ≡ true
+    detail-seems m = go (isFlag 4 (flagsIn l i)) refl
+      where
+        state-met : stateMeets (eventAt l i .set) (eventAt l i .clear) (isFlag 2 (flagsIn l i)) (x .state) ≡ true
+        state-met = state-part map l i x m
+
+        go : (t : Bool) → isFlag 4 (flagsIn l i) ≡ t → detailSeems (fold (wordAt l (lowsAt + i))) (soughtOf map x) ≡ true
+        go true q =
+            ap (λ (w : ℕ). detailSeems w (soughtOf map x)) (sym (low-is l b i))
+            ∙ asked (eventAt l i .set) (eventAt l i .clear) (isFlag 1 (flagsIn l i)) (valueIn l i) (meets-detail map l i x r state-met q ∙ m)
+        go false q = none-asked (wordAt l (lowsAt + i)) (f .bare q)
+
+    -- ---- The event
+
+    module _ (limit before : ℕ) where
+      seems-fits : fitsAfter map limit before (elementOf (eventAt l i) 0) x ≡ true → seems l i (soughtOf map x) ≡ true
+      unfolding fitsAfter elementOf seems
+      seems-fits e =
+          let p = chain-parts (eqb (elementCode (eventAt l i .code) (eventAt l i .count) 0) (x .code))
+          (eventMeets map (eventAt l i) x ∷ (not (elementOf (eventAt l i) 0 .timed) || quick limit before (x .time)) ∷ []) e in
+          let c : codeSeems (wordAt l (codesAt + i)) (soughtOf map x) ≡ true
+          = rw (f .codeWord) (first-code (eventAt l i .code) (eventAt l i .count) (soughtOf map x) (f .codeLow) (eqb-true (elementCode (eventAt l i .code) (eventAt l i .count) 0) (x .code) (p .0) ∙ sought-code map x)) in
+          and-both (codeSeems (wordAt l (codesAt + i)) (soughtOf map x)) (detailSeems (fold (wordAt l (lowsAt + i))) (soughtOf map x)) c (detail-seems (p .1 .0))
+
+      -- an event that does not pass does not fit
+      pub fits-seems : seems l i (soughtOf map x) ≡ false → fitsAfter map limit before (elementOf (eventAt l i) 0) x ≡ false
+      fits-seems q = go (fitsAfter map limit before (elementOf (eventAt l i) 0) x) refl
+        where
+          go : (t : Bool) → fitsAfter map limit before (elementOf (eventAt l i) 0) x ≡ t → t ≡ false
+          go true e = absurd (true≢false (sym (seems-fits e) ∙ q))
+          go false e = refl
+
+-- ---- A production
+
+module _ (map : List ℕ) (limit : ℕ) (l : List ℕ) (f : TableFacts l) (b : Bytes l) (first n : ℕ) (events : List Event) (from to : ℕ)
+    (long : length events ≡ 25) (room : to ≤ 25) (m : from < to) (o : 1 ≤ n) (w : first + n ≤ eventCount l)
+    (ranges : (j : ℕ) → j < to → EventRanges (getD events j zeroEvent)) where
+  abbrev x : ℕ → Event
+  x j = getD events j zeroEvent
+
+  -- whether event j fits the first element of event i
+  abbrev fit : ℕ → ℕ → Bool
+  fit i j = fitsAfter map limit (x j .time) (elementOf (eventAt l i) 0) (x j)
+
+  -- the first event of the stretch does not pass
+  pub seems-not : seems l first (soughtOf map (x from)) ≡ false → target map limit l first n events from to ≡ Followed.No
+  seems-not q =
+      let h : first < eventCount l = omega arith in
+      walks-other map limit l first n events from to long room m o (fit first from) refl
+      (fits-seems map (x from) l b first (f .entry first h) (ranges from m) limit (x from .time) q)
+
+  single : wordAt l (countsAt + first) ≤ 1 → 0 + 1 ≡ sizeIn l first
+  unfolding sizeIn elementCount
+  single c =
+      let h : first < eventCount l = omega arith in
+      let e : eventAt l first .count ≤ 1 = rw (← f .entry first h .countWord) c in
+      rw (le-leb (eventAt l first .count) 1 e)
+
+  -- the first event of the production is met once, and the second event of the stretch does not pass at the next
+  second-not : wordAt l (countsAt + first) ≤ 1 → from + 1 < to → seems l (first + 1) (soughtOf map (x (from + 1))) ≡ false
+      → target map limit l first n events from to ≡ Followed.No
+  second-not c h q = go (fit first from) refl
+    where
+      less : from ≤ to
+      less = omega arith
+
+      turned : fit first from ≡ true → Walks map limit l first n events from to (first + 1) 0 (from + 1)
+      turned e =
+          let d : first < first + n = omega arith in
+          walks-turn map limit l first n events from to room first 0 from (walks-start map limit l first n events from to long less) d m from
+          (λ z. absurd (omega arith)) (fit first from) refl e (single c)
+
+      more : (t : Bool) → ltb (first + 1) (first + n) ≡ t → fit first from ≡ true → target map limit l first n events from to ≡ Followed.No
+      more true k e =
+          let d : first + 1 < first + n = ltb-true (first + 1) (first + n) k in
+          let i : first + 1 < eventCount l = omega arith in
+          walks-no map limit l first n events from to room (first + 1) 0 (from + 1) (turned e) d h (from + 1) (λ z. absurd (omega arith))
+          (fit (first + 1) (from + 1)) refl
+          (fits-seems map (x (from + 1)) l b (first + 1) (f .entry (first + 1) i) (ranges (from + 1) h) limit (x (from + 1) .time) q)
+      more false k e =
+          walks-over map limit l first n events from to room (first + 1) 0 (from + 1) (turned e) (ltb-false (first + 1) (first + n) k) h
+
+      go : (t : Bool) → fit first from ≡ t → target map limit l first n events from to ≡ Followed.No
+      go true e = more (ltb (first + 1) (first + n)) refl e
+      go false e = walks-other map limit l first n events from to long room m o (fit first from) refl e
+
+  module _ (short : Bool) (two : Sought) (es : short ≡ eqb (from + 1) to) (et : from + 1 < to → two ≡ soughtOf map (x (from + 1))) where
+    pub begins-not : begins l (soughtOf map (x from)) short two first ≡ false → target map limit l first n events from to ≡ Followed.No
+    unfolding begins
+    begins-not q = go (seems l first (soughtOf map (x from))) refl
+      where
+        go : (t : Bool) → seems l first (soughtOf map (x from)) ≡ t → target map limit l first n events from to ≡ Followed.No
+        go false e = seems-not e
+        go true e =
+            let r : (short || ltb 1 (wordAt l (countsAt + first)) || seems l (first + 1) two) ≡ false = rw e at q in
+            let u : (short || ltb 1 (wordAt l (countsAt + first))) ≡ false = or-no-left (short || ltb 1 (wordAt l (countsAt + first))) (seems l (first + 1) two) r in
+            let v : short ≡ false = or-no-left short (ltb 1 (wordAt l (countsAt + first))) u in
+            let d : from + 1 ≡ to → ⊥ = eqb-false (from + 1) to (sym es ∙ v) in
+            let h : from + 1 < to = omega arith in
+            second-not (ltb-false 1 (wordAt l (countsAt + first)) (or-no-right short (ltb 1 (wordAt l (countsAt + first))) u)) h
+            (ap (seems l (first + 1)) (sym (et h)) ∙ or-no-right (short || ltb 1 (wordAt l (countsAt + first))) (seems l (first + 1) two) r)
+
+-- ---- All productions
+
+not-true : (t : Bool) → not t ≡ true → t ≡ false
+not-true true e = absurd (false≢true e)
+not-true false e = refl
+
+none-at : (l : List ℕ) (one : Sought) (short : Bool) (two : Sought) (n i : ℕ) → every (cannotBegin l one short two) 0 n ≡ true → i < n
+    → begins l one short two i ≡ false
+unfolding cannotBegin
+none-at l one short two n i q h =
+    not-true (begins l one short two i) (rw zero-add at (every-at (cannotBegin l one short two) 0 n i q h))
+
+pub none-passes : (map : List ℕ) (limit : ℕ) (l : List ℕ) → TableFacts l → Bytes l → (events : List Event) (from to : ℕ)
+    → length events ≡ 25 → to ≤ 25 → from < to → ((j : ℕ) → j < to → EventRanges (getD events j zeroEvent))
+    → (short : Bool) (two : Sought) → short ≡ eqb (from + 1) to → (from + 1 < to → two ≡ soughtOf map (getD events (from + 1) zeroEvent))
+    → every (cannotBegin l (soughtOf map (getD events from zeroEvent)) short two) 0 (eventCount l) ≡ true
+    → passed (decode l) map limit (drop from (take to events)) ≡ Passed.No
+none-passes map limit l f b events from to long room m ranges short two es et q =
+    passed-none map limit l (drop from (take to events)) no
+  where
+    cannot : (i : ℕ) → i < eventCount l → begins l (soughtOf map (getD events from zeroEvent)) short two i ≡ false
+    cannot i h = none-at l (soughtOf map (getD events from zeroEvent)) short two (eventCount l) i q h
+
+    no : (p : ℕ) → p < productionCount l → followed map limit (drop from (take to events)) (productionAt l p) ≡ Followed.No
+    no p h =
+        let w = f .within p h in
+        let o = f .some p h in
+        production-walk map limit l (drop from (take to events)) p
+        ∙ begins-not map limit l f b (eventsFrom l p) (productionEvents l p) events from to long room m o w ranges short two es et
+        (cannot (eventsFrom l p) (omega arith))
