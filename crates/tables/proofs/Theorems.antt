@@ -3,32 +3,24 @@ use Prim.Native.Nat.{ℕ, _+_, _-_, _≤_}
 use native.Mathlib.Omega.{arith}
 use mathlib.Core.Path.{_≡_, refl, sym, ap, _∙_}
 use mathlib.Core.List.{List, [], _∷_, _++_, map}
-use mathlib.Core.Bool.{true, false, false≢true}
+use mathlib.Core.Bool.{true}
 use lib.Dec.{eqb}
 use lib.ListN.{length, take, drop, take-append-drop, length-append}
 use lib.Seq.{take-at}
-use borrow.Author.Tests.{eqb-true, eq-eqb}
+use borrow.Author.Tests.{eq-eqb}
 use Rattle.words.specs.Words.{bytesOf, zeros}
 use Rattle.words.proofs.Bools.{and-left, and-right, and-both}
 use Rattle.words.proofs.Laws.{zeros-add}
 use Rattle.words.proofs.Images.{bytes-zeros}
 use Rattle.model.specs.Lists.{same}
 use Rattle.model.specs.Tables.{Table, emptyTable}
+use Rattle.model.proofs.Sameness.{same-eq}
 use Rattle.tables.specs.Layout.{padded, joined, offset, tableLength, flat, headerOf, entriesOf, sectionsOf, image, encode}
 use Rattle.tables.specs.Reading.{decode}
 use Rattle.tables.specs.Fitting.{fitting}
 use Rattle.tables.specs.Whole.{whole}
 use Rattle.tables.proofs.Images.{length-image}
 use Rattle.tables.proofs.Encoded as encoded
-
-pub same-eq : (xs ys : List ℕ) → same xs ys ≡ true → xs ≡ ys
-same-eq [] [] e = refl
-same-eq [] (y ∷ ys) e = absurd (false≢true e)
-same-eq (x ∷ xs) [] e = absurd (false≢true e)
-same-eq (x ∷ xs) (y ∷ ys) e =
-    let p : x ≡ y = eqb-true x y (and-left (eqb x y) (same xs ys) e) in
-    let q : xs ≡ ys = same-eq xs ys (and-right (eqb x y) (same xs ys) e) in
-    rw (p, q)
 
 same-refl : (xs : List ℕ) → same xs xs ≡ true
 same-refl [] = refl
