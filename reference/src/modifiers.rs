@@ -78,7 +78,7 @@ impl ModifierTest {
 
     /// Whether every testable bit is asked set or clear.
     pub fn is_exact(&self) -> bool {
-        self.cared_for() == testable(self.colon)
+        testable(self.colon) & !self.cared_for() == 0
     }
 }
 

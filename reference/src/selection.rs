@@ -1,8 +1,9 @@
 //! The matcher (01, "Selection"). It keeps every heard event and applies the four rules
-//! directly at each call.
+//! directly at each call. Beside it stands one that keeps the open context alone.
 
 use crate::counts::{self, Element};
 use crate::keyboard;
+use crate::layout::Context;
 use crate::limits;
 use crate::modifiers::{BUTTONS, STANDARD};
 use crate::names;
@@ -11,12 +12,66 @@ use crate::records::{read_record, Event};
 use crate::table::Table;
 use std::ops::RangeInclusive;
 
-pub struct Matcher<'a> {
+/// What the rules ask of a table, under a keyboard map and a multi-click time.
+pub struct Reading<'a> {
     /// The keyboard map, `keyboard::MAP_LENGTH` long unless every call is to be refused.
     map: &'a [u32],
     multi_click_time: u32,
     /// The expanded events of each production.
     sequences: Vec<Vec<Element>>,
+}
+
+impl<'a> Reading<'a> {
+    pub fn new(table: &Table, map: &'a [u32], multi_click_time: u32) -> Reading<'a> {
+        Reading {
+            map,
+            multi_click_time,
+            sequences: counts::sequences(table),
+        }
+    }
+
+    /// Reads a record. Checks 1 for the map, then 13.
+    pub fn event(&self, record: &[u8], order: u8) -> Result<Event, Number> {
+        if self.map.len() != keyboard::MAP_LENGTH {
+            return Err(Number::ShortBuffer);
+        }
+        read_record(record, order)
+    }
+
+    /// Rule 1: "an event whose type no production has, expansion included".
+    pub fn is_dropped(&self, event: &Event) -> bool {
+        let mut elements = self.sequences.iter().flatten();
+        !elements.any(|element| element.code == event.code)
+    }
+
+    /// Rule 2: whether the stretch matches the first elements of some production.
+    pub fn is_prefix(&self, stretch: &[Event]) -> bool {
+        let mut sequences = self.sequences.iter();
+        sequences.any(|sequence| self.is_prefix_of(stretch, sequence))
+    }
+
+    fn is_prefix_of(&self, stretch: &[Event], sequence: &[Element]) -> bool {
+        stretch.len() <= sequence.len()
+            && (0..stretch.len()).all(|at| self.element_matches(stretch, at, &sequence[at]))
+    }
+
+    fn element_matches(&self, stretch: &[Event], at: usize, element: &Element) -> bool {
+        let in_time = element.timed_from.is_none_or(|from| {
+            counts::in_time(stretch[from].time, stretch[at].time, self.multi_click_time)
+        });
+        in_time && event_matches(&stretch[at], element, self.map)
+    }
+
+    /// Rule 4: "the earliest production whose whole sequence the stretch is".
+    pub fn selected(&self, stretch: &[Event]) -> Option<usize> {
+        self.sequences.iter().position(|sequence| {
+            sequence.len() == stretch.len() && self.is_prefix_of(stretch, sequence)
+        })
+    }
+}
+
+pub struct Matcher<'a> {
+    reading: Reading<'a>,
     /// Event t of the rules stands at index t - 1.
     history: Vec<Event>,
     /// "The latest start there was, 0 at first."
@@ -30,14 +85,23 @@ pub struct Matcher<'a> {
 impl<'a> Matcher<'a> {
     /// A matcher in a fresh state.
     pub fn new(table: &Table, map: &'a [u32], multi_click_time: u32) -> Matcher<'a> {
+        Matcher::resumed(table, map, multi_click_time, Context::default())
+    }
+
+    /// A matcher whose history is the events of a context, open if there are any.
+    pub fn resumed(
+        table: &Table,
+        map: &'a [u32],
+        multi_click_time: u32,
+        context: Context,
+    ) -> Matcher<'a> {
+        let open = !context.events.is_empty();
         Matcher {
-            map,
-            multi_click_time,
-            sequences: counts::sequences(table),
-            history: Vec::new(),
-            latest_start: 0,
-            last_selection: 0,
-            open: false,
+            reading: Reading::new(table, map, multi_click_time),
+            history: context.events,
+            latest_start: usize::from(open),
+            last_selection: context.selected,
+            open,
         }
     }
 
@@ -54,17 +118,25 @@ impl<'a> Matcher<'a> {
         self.open.then_some(self.latest_start..=self.history.len())
     }
 
+    /// What a state keeps of the history.
+    pub fn kept(&self) -> Context {
+        match self.open {
+            true => Context {
+                events: self.stretch(self.latest_start).to_vec(),
+                selected: (self.last_selection + 1).saturating_sub(self.latest_start),
+            },
+            false => Context::default(),
+        }
+    }
+
     pub fn history(&self) -> &[Event] {
         &self.history
     }
 
     /// Checks 1, 13 and 15; a refused call leaves the state as it was.
     fn hear(&mut self, record: &[u8], order: u8) -> Result<Option<usize>, Number> {
-        if self.map.len() != keyboard::MAP_LENGTH {
-            return Err(Number::ShortBuffer);
-        }
-        let event = read_record(record, order)?;
-        if self.is_dropped(&event) {
+        let event = self.reading.event(record, order)?;
+        if self.reading.is_dropped(&event) {
             return Ok(None);
         }
         self.history.push(event);
@@ -79,53 +151,80 @@ impl<'a> Matcher<'a> {
             return Ok(None);
         };
         self.latest_start = s;
-        let selected = self.selected(s, t);
+        let selected = self.reading.selected(self.stretch(s));
         if selected.is_some() {
             self.last_selection = t;
         }
         Ok(selected)
     }
 
-    /// Rule 1: "an event whose type no production has, expansion included".
-    fn is_dropped(&self, event: &Event) -> bool {
-        let mut elements = self.sequences.iter().flatten();
-        !elements.any(|element| element.code == event.code)
-    }
-
-    /// Rule 2: whether the stretch s..t matches the first elements of the sequence.
-    fn reads_as_prefix_of(&self, s: usize, t: usize, sequence: &[Element]) -> bool {
-        let stretch = &self.history[s - 1..t];
-        stretch.len() <= sequence.len()
-            && (0..stretch.len()).all(|at| self.element_matches(stretch, at, &sequence[at]))
-    }
-
-    fn element_matches(&self, stretch: &[Event], at: usize, element: &Element) -> bool {
-        let in_time = element.timed_from.is_none_or(|from| {
-            counts::in_time(stretch[from].time, stretch[at].time, self.multi_click_time)
-        });
-        in_time && event_matches(&stretch[at], element, self.map)
-    }
-
-    fn reads_as_prefix(&self, s: usize, t: usize) -> bool {
-        let mut sequences = self.sequences.iter();
-        sequences.any(|sequence| self.reads_as_prefix_of(s, t, sequence))
+    /// The events from number s to the latest one.
+    fn stretch(&self, s: usize) -> &[Event] {
+        &self.history[s - 1..]
     }
 
     /// Rule 3: the start of the context that is open after event t.
     fn start_at(&self, t: usize) -> Option<usize> {
-        if self.open && self.reads_as_prefix(self.latest_start, t) {
+        if self.open && self.reading.is_prefix(self.stretch(self.latest_start)) {
             return Some(self.latest_start);
         }
         let after_both = self.latest_start.max(self.last_selection) + 1;
-        (after_both..=t).find(|&start| self.reads_as_prefix(start, t))
+        (after_both..=t).find(|&start| self.reading.is_prefix(self.stretch(start)))
+    }
+}
+
+/// A matcher that keeps the events of the open context alone. Where no context is open, no
+/// stretch up to now reads as a prefix, so none that goes on from it does. It selects as
+/// `Matcher` does, and its cost does not grow with the history.
+pub struct BoundedMatcher<'a> {
+    reading: Reading<'a>,
+    context: Context,
+}
+
+impl<'a> BoundedMatcher<'a> {
+    pub fn new(
+        table: &Table,
+        map: &'a [u32],
+        multi_click_time: u32,
+        context: Context,
+    ) -> BoundedMatcher<'a> {
+        BoundedMatcher {
+            reading: Reading::new(table, map, multi_click_time),
+            context,
+        }
     }
 
-    /// Rule 4: "the earliest production whose whole sequence the stretch is".
-    fn selected(&self, s: usize, t: usize) -> Option<usize> {
-        let length = t - s + 1;
-        self.sequences.iter().position(|sequence| {
-            sequence.len() == length && self.reads_as_prefix_of(s, t, sequence)
-        })
+    pub fn kept(&self) -> &Context {
+        &self.context
+    }
+
+    /// Gives the call's number and the selected production's.
+    pub fn call(&mut self, record: &[u8], order: u8) -> (Number, Option<usize>) {
+        match self.reading.event(record, order) {
+            Ok(event) if self.reading.is_dropped(&event) => (Number::Accepted, None),
+            Ok(event) => (Number::Accepted, self.hear(event)),
+            Err(number) => (number, None),
+        }
+    }
+
+    fn hear(&mut self, event: Event) -> Option<usize> {
+        let Context { events, selected } = &mut self.context;
+        let used_up = (*selected).max(1);
+        events.push(event);
+        if !self.reading.is_prefix(events) {
+            let mut starts = used_up..events.len();
+            let start = starts.find(|&start| self.reading.is_prefix(&events[start..]));
+            events.drain(..start.unwrap_or(events.len()));
+            *selected = 0;
+        }
+        let chosen = match events.is_empty() {
+            true => None,
+            false => self.reading.selected(events),
+        };
+        if chosen.is_some() {
+            *selected = events.len();
+        }
+        chosen
     }
 }
 

@@ -2,7 +2,6 @@
 
 use crate::calls::{self, CallContents, ProductionContents, Texts};
 use crate::details;
-use crate::modifiers::ModifierTest;
 use crate::names::{self, Modifier};
 use crate::numbers::Number;
 use crate::table::{EventSpec, Table};
@@ -24,7 +23,7 @@ fn production(production: &ProductionContents) -> Vec<u8> {
 }
 
 fn event(spec: &EventSpec) -> String {
-    let list = modifier_list(&spec.test);
+    let list = modifier_list(spec);
     let type_name = match spec.test.clause {
         true => names::BTN_MOTION,
         false => names::canonical_event_type(spec.code),
@@ -39,10 +38,11 @@ fn event(spec: &EventSpec) -> String {
     format!("{list}<{type_name}>{count}{detail}")
 }
 
-/// "`!` (or `!:`) wherever every testable bit is asked set or clear, then only set bits
-/// listed." The test of a code other than 2..8 asks nothing, so its list is empty.
-fn modifier_list(test: &ModifierTest) -> String {
-    let exact = test.is_exact();
+/// "On codes 2..8 alone `!` (or `!:`) wherever every testable bit is asked set or clear, then
+/// only set bits listed." No text gives a list on another code, but a table's bytes can.
+fn modifier_list(spec: &EventSpec) -> String {
+    let test = &spec.test;
+    let exact = names::has_state(spec.code) && test.is_exact();
     let mut listed = Vec::new();
     for &(name, modifier) in &names::MODIFIERS[..names::CANONICAL_MODIFIERS] {
         match modifier {

@@ -1,0 +1,211 @@
+//! The proved library and plain Rust side by side, with their results compared.
+
+use crate::capi;
+use crate::desk::{self, Record, MULTI_CLICK_TIME, ORDER};
+use glykorant_reference::layout::{self, Context, STATE_BYTES, TABLE_BYTES};
+use glykorant_reference::{compile, BoundedMatcher, Matcher, Number, Table};
+use std::hint::black_box;
+use std::process::ExitCode;
+use std::time::{Duration, Instant};
+
+/// Events of a stream.
+const LENGTH: usize = 400;
+
+/// How long each measurement is repeated. Its least time counts, since other work on the machine
+/// only adds to it.
+const REPEATED: Duration = Duration::from_millis(1500);
+
+/// What is measured: the table in both forms, and the keyboard in both forms.
+struct Desk {
+    text: Vec<u8>,
+    table: Table,
+    bytes: Vec<u8>,
+    map: Vec<u32>,
+    map_bytes: Vec<u8>,
+}
+
+type Outcome = (u8, Option<usize>);
+
+pub fn main() -> ExitCode {
+    match run() {
+        Ok(()) => ExitCode::SUCCESS,
+        Err(message) => {
+            eprintln!("{message}");
+            ExitCode::FAILURE
+        }
+    }
+}
+
+fn run() -> Result<(), String> {
+    let desk = desk()?;
+    println!(
+        "{} productions, {} bytes of text, {LENGTH} events a stream; the least of many runs",
+        desk.table.productions.len(),
+        desk.text.len()
+    );
+    println!("proved: tt_match and tt_compile, on lent bytes that are checked at each call");
+    println!("reference: the second implementation, on the same bytes, checked at each call too");
+    println!("prepared: the second implementation, with the table read and expanded beforehand");
+    println!();
+    println!(
+        "{:<30}{:>8}{:>11}{:>7}{:>10}{:>7}",
+        "ns per event", "proved", "reference", "times", "prepared", "times"
+    );
+    for (name, records) in desk::streams(LENGTH) {
+        same_results(&desk, &records).map_err(|message| format!("{name}: {message}"))?;
+        let proved = nanoseconds(&records, || on_bytes(&desk, &records, proved_call));
+        let reference = nanoseconds(&records, || on_bytes(&desk, &records, reference_call));
+        let prepared = nanoseconds(&records, || prepared(&desk, &records));
+        println!(
+            "{name:<30}{proved:>8.0}{reference:>11.0}{:>7.1}{prepared:>10.0}{:>7.1}",
+            reference / proved,
+            prepared / proved
+        );
+    }
+    println!();
+    compiling(&desk);
+    Ok(())
+}
+
+fn desk() -> Result<Desk, String> {
+    let text = desk::text().into_bytes();
+    let table = compile(&text).map_err(|refusal| format!("the table: {refusal:?}"))?;
+    let mut bytes = vec![0; TABLE_BYTES];
+    let answer = capi::compile(&text, &mut bytes);
+    if answer.number != 0 || layout::decode(&bytes).as_ref() != Some(&table) {
+        return Err(format!("the tables differ: {answer:?}"));
+    }
+    let map = desk::map();
+    let map_bytes = map.iter().flat_map(|number| number.to_le_bytes()).collect();
+    Ok(Desk {
+        text,
+        table,
+        bytes,
+        map,
+        map_bytes,
+    })
+}
+
+/// Every event's number and selection, and the state after it. The matcher over the whole history
+/// decides.
+fn same_results(desk: &Desk, records: &[Record]) -> Result<(), String> {
+    let mut rules = Matcher::new(&desk.table, &desk.map, MULTI_CLICK_TIME);
+    let mut prepared = prepared_matcher(desk);
+    let mut states = [[0; STATE_BYTES]; 2];
+    capi::fresh(&mut states[0]);
+    for (at, record) in records.iter().enumerate() {
+        let expected = outcome(rules.call(record, ORDER));
+        let found = [
+            proved_call(desk, &mut states[0], record),
+            reference_call(desk, &mut states[1], record),
+            outcome(prepared.call(record, ORDER)),
+        ];
+        let bytes = layout::encode_state(&rules.kept());
+        if found != [expected; 3] || states.iter().any(|state| *state != *bytes) {
+            return Err(format!("event {at}: {found:?} and not {expected:?}"));
+        }
+    }
+    Ok(())
+}
+
+fn outcome((number, selected): (Number, Option<usize>)) -> Outcome {
+    (number as u8, selected)
+}
+
+type State = [u8; STATE_BYTES];
+
+fn proved_call(desk: &Desk, state: &mut State, record: &Record) -> Outcome {
+    let answer = capi::match_event(
+        &desk.bytes,
+        &desk.map_bytes,
+        MULTI_CLICK_TIME,
+        state,
+        record,
+        ORDER,
+    );
+    (answer.number, (answer.value as usize).checked_sub(1))
+}
+
+/// The same call in plain Rust.
+fn reference_call(desk: &Desk, state: &mut State, record: &Record) -> Outcome {
+    let Some(table) = layout::decode(&desk.bytes) else {
+        return outcome((Number::TableNotWhole, None));
+    };
+    let Some(context) = layout::decode_state(state) else {
+        return outcome((Number::StateNotWhole, None));
+    };
+    let numbers = desk.map_bytes.chunks_exact(4);
+    let map: Vec<u32> = numbers
+        .map(|four| u32::from_le_bytes([four[0], four[1], four[2], four[3]]))
+        .collect();
+    let mut matcher = BoundedMatcher::new(&table, &map, MULTI_CLICK_TIME, context);
+    let answer = matcher.call(record, ORDER);
+    state.copy_from_slice(&layout::encode_state(matcher.kept()));
+    outcome(answer)
+}
+
+fn prepared_matcher(desk: &Desk) -> BoundedMatcher<'_> {
+    BoundedMatcher::new(&desk.table, &desk.map, MULTI_CLICK_TIME, Context::default())
+}
+
+/// The least time of an event of the stream, in nanoseconds. A run gives its own time.
+fn nanoseconds(records: &[Record], run: impl Fn() -> Duration) -> f64 {
+    least(run).as_nanos() as f64 / records.len() as f64
+}
+
+fn least(run: impl Fn() -> Duration) -> Duration {
+    let begun = Instant::now();
+    let mut least = run();
+    while begun.elapsed() < REPEATED {
+        least = least.min(run());
+    }
+    least
+}
+
+fn on_bytes(
+    desk: &Desk,
+    records: &[Record],
+    call: impl Fn(&Desk, &mut State, &Record) -> Outcome,
+) -> Duration {
+    let mut state = [0; STATE_BYTES];
+    let begun = Instant::now();
+    for record in records {
+        black_box(call(desk, &mut state, black_box(record)));
+    }
+    begun.elapsed()
+}
+
+fn prepared(desk: &Desk, records: &[Record]) -> Duration {
+    let mut matcher = prepared_matcher(desk);
+    let begun = Instant::now();
+    for record in records {
+        black_box(matcher.call(black_box(record), ORDER));
+    }
+    begun.elapsed()
+}
+
+fn compiling(desk: &Desk) {
+    let timed = |run: &dyn Fn()| {
+        least(|| {
+            let begun = Instant::now();
+            run();
+            begun.elapsed()
+        })
+    };
+    let proved = timed(&|| {
+        let mut table = [0; TABLE_BYTES];
+        black_box(capi::compile(black_box(&desk.text), &mut table));
+        black_box(table);
+    });
+    let reference = timed(&|| {
+        let compiled = compile(black_box(&desk.text));
+        black_box(compiled.map(|table| layout::encode(&table)).is_ok());
+    });
+    let microseconds = |time: Duration| time.as_nanos() as f64 / 1000.0;
+    let (proved, reference) = (microseconds(proved), microseconds(reference));
+    println!(
+        "{:<30}{proved:>8.1}{reference:>11.1}{:>7.1}",
+        "µs to compile the text",
+        reference / proved
+    );
+}

@@ -1,0 +1,122 @@
+//! What a comparison went over.
+
+use glykorant_reference::Number;
+use std::fmt;
+use std::ops::AddAssign;
+
+/// How often each number was answered.
+#[derive(Clone, Debug, Default)]
+pub struct Numbers([u64; Number::COUNT]);
+
+impl Numbers {
+    pub fn count(&mut self, number: u8) {
+        self.0[usize::from(number)] += 1;
+    }
+
+    pub fn total(&self) -> u64 {
+        self.0.iter().sum()
+    }
+
+    pub fn of(&self, number: Number) -> u64 {
+        self.0[number.index()]
+    }
+}
+
+impl AddAssign<&Numbers> for Numbers {
+    fn add_assign(&mut self, other: &Numbers) {
+        for (sum, count) in self.0.iter_mut().zip(other.0) {
+            *sum += count;
+        }
+    }
+}
+
+impl fmt::Display for Numbers {
+    fn fmt(&self, out: &mut fmt::Formatter) -> fmt::Result {
+        write!(out, "{}", self.total())?;
+        let mut before = " (";
+        for (number, &count) in self.0.iter().enumerate() {
+            if count > 0 {
+                write!(out, "{before}{number}: {count}")?;
+                before = ", ";
+            }
+        }
+        match before {
+            ", " => write!(out, ")"),
+            _ => Ok(()),
+        }
+    }
+}
+
+#[derive(Clone, Debug, Default)]
+pub struct Counts {
+    pub cases: u64,
+    pub compiled: Numbers,
+    pub merged: Numbers,
+    pub written: Numbers,
+    /// Questions for counts, names and parameters.
+    pub asked: Numbers,
+    pub matched: Numbers,
+    pub selections: u64,
+    pub damaged_tables: u64,
+    pub whole_damaged_tables: u64,
+    pub damaged_states: u64,
+    pub whole_damaged_states: u64,
+}
+
+impl AddAssign<&Counts> for Counts {
+    fn add_assign(&mut self, other: &Counts) {
+        self.cases += other.cases;
+        self.compiled += &other.compiled;
+        self.merged += &other.merged;
+        self.written += &other.written;
+        self.asked += &other.asked;
+        self.matched += &other.matched;
+        self.selections += other.selections;
+        self.damaged_tables += other.damaged_tables;
+        self.whole_damaged_tables += other.whole_damaged_tables;
+        self.damaged_states += other.damaged_states;
+        self.whole_damaged_states += other.whole_damaged_states;
+    }
+}
+
+impl Counts {
+    /// What the gate's run goes over at least.
+    pub fn are_enough(&self) -> bool {
+        let compiler = [0, 1, 2, 3, 4, 5, 6, 7, 8, 9, 10, 11];
+        self.compiled.total() >= 200_000
+            && compiler.iter().all(|&number| self.compiled.0[number] >= 50)
+            && self.merged.total() >= 20_000
+            && self.written.total() >= 20_000
+            && self.merged.of(Number::AlreadyMerged) >= 100
+            && self.merged.of(Number::LimitPassed) >= 100
+            && self.matched.total() >= 2_000_000
+            && self.selections >= 500_000
+            && self.matched.of(Number::StateNotWhole) >= 10_000
+            && self.matched.of(Number::TableNotWhole) >= 10_000
+            && self.damaged_tables + self.damaged_states >= 100_000
+            && self.whole_damaged_tables >= 10_000
+            && self.whole_damaged_states >= 10_000
+    }
+}
+
+impl fmt::Display for Counts {
+    fn fmt(&self, out: &mut fmt::Formatter) -> fmt::Result {
+        writeln!(out, "cases           {}", self.cases)?;
+        writeln!(out, "compiled texts  {}", self.compiled)?;
+        writeln!(out, "merges          {}", self.merged)?;
+        writeln!(out, "writes          {}", self.written)?;
+        writeln!(out, "questions       {}", self.asked)?;
+        writeln!(out, "matcher calls   {}", self.matched)?;
+        writeln!(out, "  selections    {}", self.selections)?;
+        writeln!(
+            out,
+            "damaged tables  {}, still whole {}",
+            self.damaged_tables, self.whole_damaged_tables
+        )?;
+        write!(
+            out,
+            "damaged states  {}, still whole {}",
+            self.damaged_states, self.whole_damaged_states
+        )
+    }
+}

@@ -1,0 +1,358 @@
+//! Worked examples, run through both implementations and compared with what 01 and Appendix B
+//! say of them.
+
+use crate::matching::Keys;
+use crate::tables::{ensure, Compared, Comparison, LentTexts};
+use glykorant_reference::generate::events::{EventList, RecordCall};
+use glykorant_reference::keyboard::MAP_LENGTH;
+use glykorant_reference::modifiers::{BUTTON1, BUTTON2, CTRL, LOCK, SHIFT};
+use glykorant_reference::{compile, write};
+
+/// A text with its number and place, and the canonical text where it is accepted.
+type Text = (&'static str, u8, usize, &'static str);
+
+const OF_01: &[Text] = &[
+    // "Whole example".
+    (
+        "#override\ns c<Key>a : go(now,) stop()\n<Btn1Up>(2): ok()",
+        0,
+        0,
+        "Ctrl Shift<KeyPress>0x61:go(\"now\",\"\") stop()\n<ButtonRelease>(2)Button1:ok()\n",
+    ),
+    // "`f()` has no parameter, `f(\"\")` one, `f(,)` two empty ones."
+    ("<Map>:f()", 0, 0, "<MapNotify>:f()\n"),
+    ("<Map>:f(\"\")", 0, 0, "<MapNotify>:f(\"\")\n"),
+    ("<Map>:f(,)", 0, 0, "<MapNotify>:f(\"\",\"\")\n"),
+    // "Not built yet".
+    ("Meta<Key>a:", 10, 0, ""),
+    ("<Meta>a:", 10, 0, ""),
+    ("@x<Key>a:", 10, 0, ""),
+    ("\"$a\":", 10, 0, ""),
+    ("<Key>(2+)a:x()", 10, 0, ""),
+    ("<Prop>WM_NAME:", 10, 0, ""),
+    // "`#replace`, `#override` or `#augment` may stand as the whole first line".
+    ("#replace\n<Map>:", 0, 0, "<MapNotify>:\n"),
+    ("#augment", 0, 0, ""),
+    (" #augment", 4, 0, ""),
+    ("<Map>:\n#augment", 4, 7, ""),
+    // "Names are case-sensitive."
+    ("<map>:", 5, 0, ""),
+    ("ctrl<Key>:", 5, 0, ""),
+    // What type names add or fix.
+    ("<Ctrl>a:", 0, 0, "Ctrl<KeyPress>0x61:\n"),
+    ("<Shift>a:", 0, 0, "Shift<KeyPress>0x61:\n"),
+    ("<Btn1Motion>:", 0, 0, "Button1<MotionNotify>:\n"),
+    ("<BtnMotion>:", 0, 0, "<BtnMotion>:\n"),
+    ("Button2<BtnMotion>:", 0, 0, "Button2<MotionNotify>:\n"),
+    ("<Btn1Down>:", 0, 0, "<ButtonPress>Button1:\n"),
+    ("<Btn1Down>Button1:", 5, 0, ""),
+    // Details.
+    ("<Key>7,<Key>07:", 0, 0, "<KeyPress>0x37,<KeyPress>0x7:\n"),
+    ("<Key>0x1FFFFFFF:", 0, 0, "<KeyPress>0x1fffffff:\n"),
+    ("<Key>0x20000000:", 6, 0, ""),
+    ("<Key>09:", 5, 0, ""),
+    (
+        "<Enter>3,<Enter>4:",
+        0,
+        0,
+        "<EnterNotify>WhileGrabbed,<EnterNotify>4:\n",
+    ),
+    ("<Mapping>256:", 6, 0, ""),
+    // "Count 1 reads as no count."
+    ("<Key>(1)a:", 0, 0, "<KeyPress>0x61:\n"),
+    ("<Key>(0)a:x()", 6, 0, ""),
+    // Modifier tests.
+    ("Shift ~Shift<Key>a:x()", 8, 0, ""),
+    ("None<Ctrl>a:x()", 8, 0, ""),
+    ("!<BtnMotion>:", 8, 0, ""),
+    ("Any<FocusIn>:", 7, 0, ""),
+    (":<Shift>a:", 9, 0, ""),
+    ("!:Ctrl<Key>a:", 0, 0, "!:Ctrl<KeyPress>0x61:\n"),
+    // The place is the start of the line, the byte for 3.
+    ("<Map>:\n\n  <Mop>:", 5, 8, ""),
+    ("<Map>:f(\r)", 3, 8, ""),
+    ("", 0, 0, ""),
+];
+
+const OF_APPENDIX_B: &[Text] = &[
+    (
+        "<Btn1Down>:\tDoSomething()\n\t<Btn2Down>:\tDoSomethingElse()",
+        0,
+        0,
+        "<ButtonPress>Button1:DoSomething()\n<ButtonPress>Button2:DoSomethingElse()\n",
+    ),
+    (
+        "Shift <Btn1Down> : twas()\n<Btn1Down> : brillig()",
+        0,
+        0,
+        "Shift<ButtonPress>Button1:twas()\n<ButtonPress>Button1:brillig()\n",
+    ),
+    (
+        "Shift<Btn1Up>(2) : and()",
+        0,
+        0,
+        "Shift<ButtonRelease>(2)Button1:and()\n",
+    ),
+    (
+        "Shift<Btn1Down>(2) : the()",
+        0,
+        0,
+        "Shift<ButtonPress>(2)Button1:the()\n",
+    ),
+    (
+        "<Btn1Down>,<Btn1Up> : slithy()",
+        0,
+        0,
+        "<ButtonPress>Button1,<ButtonRelease>Button1:slithy()\n",
+    ),
+    (
+        "<Btn1Down>,<Btn1Up> : toves()\n<Btn1Up> :  did()",
+        0,
+        0,
+        "<ButtonPress>Button1,<ButtonRelease>Button1:toves()\n<ButtonRelease>Button1:did()\n",
+    ),
+    (
+        "Shift Meta <Btn1Down>, Shift Meta<Btn1Up>: gyre()",
+        10,
+        0,
+        "",
+    ),
+    ("Shift <Btn1Up>(2+) : and()", 10, 0, ""),
+    ("<Enter> : gimble()", 0, 0, "<EnterNotify>:gimble()\n"),
+    ("None <Enter> : in()", 0, 0, "!<EnterNotify>:in()\n"),
+    (
+        "Button1 ~Button2 <Enter> : the()",
+        0,
+        0,
+        "Button1 ~Button2<EnterNotify>:the()\n",
+    ),
+    (
+        "! Button1 Button2 <Enter> : wabe()",
+        0,
+        0,
+        "!Button1 Button2<EnterNotify>:wabe()\n",
+    ),
+    ("<Message>WM_PROTOCOLS:", 10, 0, ""),
+    (":Shift<Key>A:", 9, 0, ""),
+    (
+        ":<Key>a:\n:<Key>A:\n<Key>0:\n<Key>!:",
+        0,
+        0,
+        ":<KeyPress>0x61:\n:<KeyPress>0x41:\n<KeyPress>0x30:\n<KeyPress>0x21:\n",
+    ),
+];
+
+const KEYCODE: u8 = 38;
+const KEY: u8 = 2;
+const PRESS: u8 = 4;
+const RELEASE: u8 = 5;
+const MOTION: u8 = 6;
+const ENTER: u8 = 7;
+
+/// Code, detail, time and state of an event, and what is selected at it.
+type Step = (u8, u8, u32, u16, Option<usize>);
+
+/// A text, a multi-click time and a list of calls. The keyboard has one key, (a, A).
+type List = (&'static str, u32, &'static [Step]);
+
+const P: &str = "<Btn1Down>,<Btn1Up>:toves()\n<Btn1Up>:did()";
+const DOUBLE: &str = "<Btn1Down>(2):g()";
+
+const LISTS: &[List] = &[
+    (
+        P,
+        100,
+        &[(PRESS, 1, 0, 0, None), (RELEASE, 1, 0, 0, Some(0))],
+    ),
+    // "Taking `did()` inside a click."
+    (
+        P,
+        100,
+        &[
+            (PRESS, 1, 0, 0, None),
+            (RELEASE, 2, 0, 0, None),
+            (RELEASE, 1, 0, 0, Some(1)),
+            (PRESS, 1, 0, 0, None),
+            (RELEASE, 1, 0, 0, Some(0)),
+            (RELEASE, 1, 0, 0, Some(1)),
+        ],
+    ),
+    // "Using a pair's second click again in the next pair."
+    (
+        DOUBLE,
+        100,
+        &[
+            (PRESS, 1, 0, 0, None),
+            (RELEASE, 1, 1, 0, None),
+            (PRESS, 1, 2, 0, Some(0)),
+            (RELEASE, 1, 3, 0, None),
+            (PRESS, 1, 4, 0, None),
+            (RELEASE, 1, 5, 0, None),
+            (PRESS, 1, 6, 0, Some(0)),
+        ],
+    ),
+    // "Times 4294967290 and 94: no pair with limit 100, a pair with 101".
+    (
+        DOUBLE,
+        100,
+        &[
+            (PRESS, 1, 4_294_967_290, 0, None),
+            (RELEASE, 1, 0, 0, None),
+            (PRESS, 1, 94, 0, None),
+        ],
+    ),
+    (
+        DOUBLE,
+        101,
+        &[
+            (PRESS, 1, 4_294_967_290, 0, None),
+            (RELEASE, 1, 0, 0, None),
+            (PRESS, 1, 94, 0, Some(0)),
+        ],
+    ),
+    // "Trying only the event's own Lock for `<Key>a`."
+    (
+        "<Key>a:x()",
+        100,
+        &[
+            (KEY, KEYCODE, 0, 0, Some(0)),
+            (KEY, KEYCODE, 0, LOCK, Some(0)),
+            (KEY, KEYCODE, 0, SHIFT | LOCK, Some(0)),
+            (KEY, KEYCODE + 1, 0, 0, None),
+        ],
+    ),
+    // "`:<Key>a` is distinct from `:<Key>A`"; "`<Key>A` and `<Key>a` are equivalent".
+    (
+        ":<Key>a:x()\n:<Key>A:y()",
+        100,
+        &[
+            (KEY, KEYCODE, 0, 0, Some(0)),
+            (KEY, KEYCODE, 0, SHIFT, Some(1)),
+            (KEY, KEYCODE, 0, LOCK, Some(1)),
+        ],
+    ),
+    (
+        "<Key>A:x()",
+        100,
+        &[
+            (KEY, KEYCODE, 0, 0, Some(0)),
+            (KEY, KEYCODE, 0, SHIFT, Some(0)),
+        ],
+    ),
+    // "Always put more specific events in the table before more general ones".
+    (
+        "Shift <Btn1Down> : twas()\n<Btn1Down> : brillig()",
+        100,
+        &[
+            (PRESS, 1, 0, SHIFT, Some(0)),
+            (PRESS, 1, 0, 0, Some(1)),
+            (PRESS, 1, 0, CTRL | SHIFT, Some(0)),
+        ],
+    ),
+    // A double click on Button 1 Up with Shift.
+    (
+        "Shift<Btn1Up>(2) : and()",
+        100,
+        &[
+            (PRESS, 1, 0, SHIFT, None),
+            (RELEASE, 1, 10, SHIFT, None),
+            (PRESS, 1, 20, SHIFT, None),
+            (RELEASE, 1, 30, SHIFT, Some(0)),
+        ],
+    ),
+    // "Mouse motion is always discarded .. where no motion event is specified".
+    (
+        "<Btn1Down>,<Btn1Up> : slithy()",
+        100,
+        &[
+            (PRESS, 1, 0, 0, None),
+            (MOTION, 0, 5, BUTTON1, None),
+            (RELEASE, 1, 10, 0, Some(0)),
+        ],
+    ),
+    (
+        "None <Enter> : in()\nButton1 ~Button2 <Enter> : the()\n! Button1 Button2 <Enter> : wabe()",
+        100,
+        &[
+            (ENTER, 0, 0, 0, Some(0)),
+            (ENTER, 0, 0, BUTTON1, Some(1)),
+            (ENTER, 0, 0, BUTTON1 | BUTTON2, Some(2)),
+            (ENTER, 0, 0, BUTTON1 | BUTTON2 | CTRL, None),
+        ],
+    ),
+];
+
+/// Runs all of them.
+pub fn run(comparison: &mut Comparison) -> Compared<()> {
+    for text in OF_01.iter().chain(OF_APPENDIX_B) {
+        run_text(comparison, text).map_err(|message| format!("{:?}: {message}", text.0))?;
+    }
+    for list in LISTS {
+        run_list(comparison, list).map_err(|message| format!("{:?}: {message}", list.0))?;
+    }
+    events_in_a_production(comparison)
+}
+
+fn run_text(comparison: &mut Comparison, vector: &Text) -> Compared<()> {
+    let &(text, number, place, written) = vector;
+    let bytes = text.as_bytes();
+    let found = match compile(bytes) {
+        Ok(table) => {
+            let text = write(&table, &[bytes, b""]).map_err(|number| format!("{number:?}"))?;
+            (0, 0, String::from_utf8_lossy(&text).into_owned())
+        }
+        Err(refusal) => (refusal.number as u8, refusal.place, String::new()),
+    };
+    ensure(found == (number, place, written.to_string()), || {
+        format!("{found:?}")
+    })?;
+    if let Some(given) = comparison.compile(bytes)? {
+        let texts = LentTexts::new(&mut comparison.random, [bytes, b""]);
+        for _ in 0..20 {
+            comparison.read(&given, &texts)?;
+        }
+    }
+    Ok(())
+}
+
+fn run_list(comparison: &mut Comparison, vector: &List) -> Compared<()> {
+    let &(text, multi_click_time, steps) = vector;
+    let given = comparison.compile(text.as_bytes())?.ok_or("refused")?;
+    let mut map = vec![0; MAP_LENGTH];
+    let at = 2 * usize::from(KEYCODE - 8);
+    map[at..at + 2].copy_from_slice(&[0x61, 0x41]);
+    let list = EventList {
+        map,
+        multi_click_time,
+        calls: steps.iter().map(record).collect(),
+    };
+    let keys = Keys::new(comparison, &list);
+    let mut running = comparison.fresh(&given, &keys)?;
+    for (at, (call, step)) in list.calls.iter().zip(steps).enumerate() {
+        let selected = comparison.call(&given, &keys, &mut running, call)?;
+        ensure(selected == step.4, || format!("{selected:?} at event {at}"))?;
+    }
+    Ok(())
+}
+
+fn record(&(code, detail, time, state, _): &Step) -> RecordCall {
+    let mut record = vec![0; 32];
+    record[0] = code;
+    record[if code == ENTER { 30 } else { 1 }] = detail;
+    record[4..8].copy_from_slice(&time.to_le_bytes());
+    record[28..30].copy_from_slice(&state.to_le_bytes());
+    RecordCall {
+        record,
+        order: b'l',
+    }
+}
+
+/// "24 events in a production: 0; 25: 11".
+fn events_in_a_production(comparison: &mut Comparison) -> Compared<()> {
+    for (events, accepted) in [(24, true), (25, false)] {
+        let text = format!("{}:x()", vec!["<Map>"; events].join(","));
+        let found = comparison.compile(text.as_bytes())?.is_some();
+        ensure(found == accepted, || format!("{events} events"))?;
+    }
+    Ok(())
+}

@@ -1,0 +1,375 @@
+//! The bytes of tables and of matcher states, written and read by docs/LAYOUT.md and not by the
+//! proved code.
+
+use crate::limits;
+use crate::modifiers::{ModifierTest, ALL};
+use crate::names;
+use crate::records::Event;
+use crate::table::{Call, Directive, EventSpec, Production, Span, Table};
+
+pub const TABLE_BYTES: usize = 5904;
+pub const STATE_BYTES: usize = 200;
+const TABLE_WORDS: usize = TABLE_BYTES / 2;
+
+/// A run of words for one field.
+#[derive(Clone, Copy, Debug, PartialEq, Eq)]
+pub struct Section {
+    pub first: usize,
+    pub words: usize,
+}
+
+const fn section(first: usize, words: usize) -> Section {
+    Section { first, words }
+}
+
+/// The sections in their order.
+pub mod sections {
+    use super::{section, Section};
+
+    pub const HEADER: Section = section(0, 8);
+    pub const PRODUCTION_EVENTS: Section = section(8, 64);
+    pub const PRODUCTION_CALLS: Section = section(72, 64);
+    pub const CODE: Section = section(136, 256);
+    pub const COUNT: Section = section(392, 256);
+    pub const SET: Section = section(648, 256);
+    pub const CLEAR: Section = section(904, 256);
+    pub const FLAGS: Section = section(1160, 256);
+    pub const DETAIL_LOW: Section = section(1416, 256);
+    pub const DETAIL_HIGH: Section = section(1672, 256);
+    pub const MARK: Section = section(1928, 128);
+    pub const NAME_START: Section = section(2056, 128);
+    pub const NAME_LENGTH: Section = section(2184, 128);
+    pub const CALL_PARAMETERS: Section = section(2312, 128);
+    pub const PARAMETER_START: Section = section(2440, 256);
+    pub const PARAMETER_LENGTH: Section = section(2696, 256);
+
+    pub const OF_PRODUCTIONS: [Section; 2] = [PRODUCTION_EVENTS, PRODUCTION_CALLS];
+    pub const OF_EVENTS: [Section; 7] = [CODE, COUNT, SET, CLEAR, FLAGS, DETAIL_LOW, DETAIL_HIGH];
+    pub const OF_CALLS: [Section; 4] = [MARK, NAME_START, NAME_LENGTH, CALL_PARAMETERS];
+    pub const OF_PARAMETERS: [Section; 2] = [PARAMETER_START, PARAMETER_LENGTH];
+}
+
+use sections::*;
+
+// The words of the header.
+const DIRECTIVE: usize = 0;
+const MERGED: usize = 1;
+const FIRST_TEXT: usize = 2;
+const SECOND_TEXT: usize = 3;
+const PRODUCTIONS: usize = 4;
+const EVENTS: usize = 5;
+const CALLS: usize = 6;
+const PARAMETERS: usize = 7;
+
+// The flags of an event.
+const COLON: u16 = 1;
+const CLAUSE: u16 = 2;
+const DETAIL: u16 = 4;
+
+/// How many words are used of the sections of productions, events, calls and parameters.
+#[derive(Clone, Copy, Debug)]
+pub struct Used {
+    pub productions: usize,
+    pub events: usize,
+    pub calls: usize,
+    pub parameters: usize,
+}
+
+impl Used {
+    pub fn of(table: &Table) -> Used {
+        Used {
+            productions: table.productions.len(),
+            events: table.events().count(),
+            calls: limits::total(&table.productions, limits::calls),
+            parameters: limits::total(&table.productions, limits::parameters),
+        }
+    }
+}
+
+/// The bytes of a table.
+pub fn encode(table: &Table) -> Vec<u8> {
+    let mut words = Words(vec![0; TABLE_WORDS]);
+    let used = Used::of(table);
+    let header = [
+        table.directive as usize,
+        usize::from(table.merged),
+        table.text_lengths[0],
+        table.text_lengths[1],
+        used.productions,
+        used.events,
+        used.calls,
+        used.parameters,
+    ];
+    for (at, value) in header.into_iter().enumerate() {
+        words.put(HEADER, at, value);
+    }
+    for (at, production) in table.productions.iter().enumerate() {
+        words.put(PRODUCTION_EVENTS, at, production.events.len());
+        words.put(PRODUCTION_CALLS, at, production.calls.len());
+    }
+    for (at, spec) in table.events().enumerate() {
+        put_event(&mut words, at, spec);
+    }
+    let calls = table.productions.iter().flat_map(|p| &p.calls);
+    let mut parameter = 0;
+    for (at, call) in calls.enumerate() {
+        words.put(MARK, at, call.text);
+        words.put(NAME_START, at, call.name.start);
+        words.put(NAME_LENGTH, at, call.name.length);
+        words.put(CALL_PARAMETERS, at, call.parameters.len());
+        for span in &call.parameters {
+            words.put(PARAMETER_START, parameter, span.start);
+            words.put(PARAMETER_LENGTH, parameter, span.length);
+            parameter += 1;
+        }
+    }
+    words.0.iter().flat_map(|word| word.to_le_bytes()).collect()
+}
+
+fn put_event(words: &mut Words, at: usize, spec: &EventSpec) {
+    let flag = |there: bool, flag: u16| if there { flag } else { 0 };
+    let flags = flag(spec.test.colon, COLON)
+        | flag(spec.test.clause, CLAUSE)
+        | flag(spec.detail.is_some(), DETAIL);
+    let detail = spec.detail.unwrap_or(0);
+    words.put(CODE, at, usize::from(spec.code));
+    words.put(COUNT, at, usize::from(spec.count));
+    words.put(SET, at, usize::from(spec.test.set));
+    words.put(CLEAR, at, usize::from(spec.test.clear));
+    words.put(FLAGS, at, usize::from(flags));
+    words.put(DETAIL_LOW, at, (detail & 0xFFFF) as usize);
+    words.put(DETAIL_HIGH, at, (detail >> 16) as usize);
+}
+
+struct Words(Vec<u16>);
+
+impl Words {
+    fn put(&mut self, section: Section, at: usize, value: usize) {
+        assert!(at < section.words, "{at} in {section:?}");
+        self.0[section.first + at] = u16::try_from(value).expect("a word has 16 bits");
+    }
+
+    fn get(&self, section: Section, at: usize) -> usize {
+        usize::from(self.0[section.first + at])
+    }
+
+    /// "Its used words come first, and the rest are 0."
+    fn rest_is_zero(&self, section: Section, used: usize) -> bool {
+        let words = &self.0[section.first..section.first + section.words];
+        words[used..].iter().all(|&word| word == 0)
+    }
+}
+
+/// The table that bytes are, if they are whole. Bytes past a table are not read.
+pub fn decode(bytes: &[u8]) -> Option<Table> {
+    let bytes = &bytes[..TABLE_BYTES];
+    let words = Words(
+        bytes
+            .chunks(2)
+            .map(|pair| u16::from_le_bytes([pair[0], pair[1]]))
+            .collect(),
+    );
+    let header = |at| words.get(HEADER, at);
+    let used = Used {
+        productions: within(header(PRODUCTIONS), 0, limits::PRODUCTIONS)?,
+        events: within(header(EVENTS), 0, limits::EVENTS)?,
+        calls: within(header(CALLS), 0, limits::CALLS)?,
+        parameters: within(header(PARAMETERS), 0, limits::PARAMETERS)?,
+    };
+    let directive = match header(DIRECTIVE) {
+        0 => Directive::Replace,
+        1 => Directive::Override,
+        2 => Directive::Augment,
+        _ => return None,
+    };
+    let merged = within(header(MERGED), 0, 1)? == 1;
+    let second_most = if merged { limits::TEXT_BYTES } else { 0 };
+    let text_lengths = [
+        within(header(FIRST_TEXT), 0, limits::TEXT_BYTES)?,
+        within(header(SECOND_TEXT), 0, second_most)?,
+    ];
+    let unused_are_zero = [
+        (OF_PRODUCTIONS.as_slice(), used.productions),
+        (&OF_EVENTS, used.events),
+        (&OF_CALLS, used.calls),
+        (&OF_PARAMETERS, used.parameters),
+    ]
+    .into_iter()
+    .all(|(all, used)| all.iter().all(|&section| words.rest_is_zero(section, used)));
+    require(unused_are_zero)?;
+    let reader = Reader {
+        words: &words,
+        used,
+        merged,
+        text_lengths,
+    };
+    let productions = reader.productions()?;
+    require(!limits::passed(&productions))?;
+    Some(Table {
+        directive,
+        merged,
+        text_lengths,
+        productions,
+    })
+}
+
+fn require(holds: bool) -> Option<()> {
+    holds.then_some(())
+}
+
+fn within(value: usize, low: usize, high: usize) -> Option<usize> {
+    (low..=high).contains(&value).then_some(value)
+}
+
+/// Reads the entries of a table whose counts are within the sections.
+struct Reader<'w> {
+    words: &'w Words,
+    used: Used,
+    merged: bool,
+    text_lengths: [usize; 2],
+}
+
+impl Reader<'_> {
+    /// "A production's events, a production's calls and a call's parameters follow each other
+    /// without a gap", and their counts add up to the header's.
+    fn productions(&self) -> Option<Vec<Production>> {
+        let (mut event, mut call, mut parameter) = (0, 0, 0);
+        let mut productions = Vec::new();
+        for at in 0..self.used.productions {
+            let events = self.words.get(PRODUCTION_EVENTS, at);
+            let calls = self.words.get(PRODUCTION_CALLS, at);
+            require(events >= 1 && event + events <= self.used.events)?;
+            require(call + calls <= self.used.calls)?;
+            let events_read: Option<Vec<EventSpec>> =
+                (event..event + events).map(|at| self.event(at)).collect();
+            let mut calls_read = Vec::new();
+            for at in call..call + calls {
+                let read = self.call(at, parameter)?;
+                parameter += read.parameters.len();
+                calls_read.push(read);
+            }
+            event += events;
+            call += calls;
+            productions.push(Production {
+                events: events_read?,
+                calls: calls_read,
+            });
+        }
+        let all_read = event == self.used.events
+            && call == self.used.calls
+            && parameter == self.used.parameters;
+        all_read.then_some(productions)
+    }
+
+    fn event(&self, at: usize) -> Option<EventSpec> {
+        let word = |section| self.words.get(section, at);
+        let code = within(
+            word(CODE),
+            usize::from(names::FIRST_CODE),
+            usize::from(names::LAST_CODE),
+        )? as u8;
+        let most = if names::is_key_or_button(code) { 9 } else { 1 };
+        let count = within(word(COUNT), 1, most)? as u8;
+        let set = within(word(SET), 0, usize::from(ALL))? as u16;
+        let clear = within(word(CLEAR), 0, usize::from(ALL))? as u16;
+        let flags = within(word(FLAGS), 0, 7)? as u16;
+        let detail = word(DETAIL_LOW) + (word(DETAIL_HIGH) << 16);
+        let largest = if flags & DETAIL != 0 { 0x1FFF_FFFF } else { 0 };
+        let detail = within(detail, 0, largest)? as u32;
+        Some(EventSpec {
+            code,
+            count,
+            test: ModifierTest {
+                set,
+                clear,
+                colon: flags & COLON != 0,
+                clause: flags & CLAUSE != 0,
+            },
+            detail: (flags & DETAIL != 0).then_some(detail),
+        })
+    }
+
+    fn call(&self, at: usize, first_parameter: usize) -> Option<Call> {
+        let text = within(self.words.get(MARK, at), 0, usize::from(self.merged))?;
+        let length = self.text_lengths[text];
+        let span = |starts, lengths, at| {
+            let span = Span {
+                start: self.words.get(starts, at),
+                length: self.words.get(lengths, at),
+            };
+            (span.start + span.length <= length).then_some(span)
+        };
+        let name = span(NAME_START, NAME_LENGTH, at)?;
+        let count = within(
+            self.words.get(CALL_PARAMETERS, at),
+            0,
+            limits::PARAMETERS_IN_CALL,
+        )?;
+        require(first_parameter + count <= self.used.parameters)?;
+        let parameters: Option<Vec<Span>> = (first_parameter..first_parameter + count)
+            .map(|at| span(PARAMETER_START, PARAMETER_LENGTH, at))
+            .collect();
+        Some(Call {
+            text,
+            name,
+            parameters: parameters?,
+        })
+    }
+}
+
+/// What a matcher state stands for: the events of the open context, and how many of them lie at
+/// or before the last selection.
+#[derive(Clone, Debug, Default, PartialEq, Eq)]
+pub struct Context {
+    pub events: Vec<Event>,
+    pub selected: usize,
+}
+
+const EVENT_BYTES: usize = 8;
+const STATE_HEADER: usize = STATE_BYTES - limits::EVENTS_IN_PRODUCTION * EVENT_BYTES;
+
+/// The bytes of a matcher state.
+pub fn encode_state(context: &Context) -> Vec<u8> {
+    let kept = context.events.len();
+    let header = [kept, context.selected, usize::from(kept > 0), 0];
+    let mut bytes: Vec<u8> = header
+        .into_iter()
+        .flat_map(|value| (value as u16).to_le_bytes())
+        .collect();
+    for event in &context.events {
+        bytes.extend([event.code, event.detail]);
+        bytes.extend(event.state.to_le_bytes());
+        bytes.extend(event.time.to_le_bytes());
+    }
+    assert!(bytes.len() <= STATE_BYTES, "a context keeps 24 events");
+    bytes.resize(STATE_BYTES, 0);
+    bytes
+}
+
+/// What the bytes of a state stand for, if they are whole. Bytes past a state are not read.
+pub fn decode_state(bytes: &[u8]) -> Option<Context> {
+    let word = |at: usize| usize::from(u16::from_le_bytes([bytes[at], bytes[at + 1]]));
+    let kept = within(word(0), 0, limits::EVENTS_IN_PRODUCTION)?;
+    let selected = within(word(2), 0, kept)?;
+    require(word(4) == usize::from(kept > 0) && word(6) == 0)?;
+    let slots = &bytes[STATE_HEADER..STATE_BYTES];
+    let (used, unused) = slots.split_at(kept * EVENT_BYTES);
+    require(unused.iter().all(|&byte| byte == 0))?;
+    let events: Option<Vec<Event>> = used.chunks(EVENT_BYTES).map(slot).collect();
+    Some(Context {
+        events: events?,
+        selected,
+    })
+}
+
+fn slot(bytes: &[u8]) -> Option<Event> {
+    let event = Event {
+        code: bytes[0],
+        detail: bytes[1],
+        state: u16::from_le_bytes([bytes[2], bytes[3]]),
+        time: u32::from_le_bytes([bytes[4], bytes[5], bytes[6], bytes[7]]),
+    };
+    let has_type = (names::FIRST_CODE..=names::LAST_CODE).contains(&event.code);
+    let has_keycode = !names::is_key(event.code) || event.detail >= 8;
+    (has_type && has_keycode && event.state <= ALL).then_some(event)
+}
