@@ -1,28 +1,54 @@
-// A quota desk: a click looks at a bucket, a double click grants space. A recorded run of clicks is matched against the
-// table, and each call that is selected is printed: the third click does not pair with the second, and two presses across
-// the wrap of the server's 32-bit clock pair only where they are quick.
+// A quota desk: a click looks at a bucket, a double click grants space, and so does Ctrl G. A recorded run of events is matched
+// against the table, and each call that is selected is printed. The third click does not pair with the second, two clicks
+// across the wrap of the server's 32-bit clock pair only where they are quick, and Caps Lock changes nothing.
 use libc::STDOUT_FILENO;
 use matcher::state::State;
 use model::answers::Compiled;
 use model::answers::Matched;
 
-const PRESS: u8 = 4;
-
-const RELEASE: u8 = 5;
-
 // Two presses less than this many milliseconds apart are a double click.
 const MULTI_CLICK_TIME: u32 = 200;
 
-// A button event as the server sends it, least significant byte first.
-fn record(code: u8, time: u32) -> [u8; 32] {
+const KEY_PRESS: u8 = 2;
+
+const BUTTON_PRESS: u8 = 4;
+
+const BUTTON_RELEASE: u8 = 5;
+
+// The keycode of G on this keyboard.
+const KEYCODE_G: u8 = 42;
+
+// Modifier states.
+const NONE: u8 = 0;
+
+const LOCK: u8 = 2;
+
+const CTRL: u8 = 4;
+
+const CTRL_LOCK: u8 = 6;
+
+fn put(bytes: &[u8]) {
+    io::write_all(STDOUT_FILENO, bytes);
+}
+
+// A key or button event as the server sends it, least significant byte first.
+fn record(code: u8, detail: u8, modifiers: u8, time: u32) -> [u8; 32] {
     let mut r = [0u8; 32];
     r[0] = code;
-    r[1] = 1;
+    r[1] = detail;
     r[4] = (time % 256) as u8;
     r[5] = (time / 256 % 256) as u8;
     r[6] = (time / 65536 % 256) as u8;
     r[7] = (time / 16777216 % 256) as u8;
+    r[28] = modifiers;
     r
+}
+
+// A keyboard with one key: keycode 42, the 35th pair from keycode 8 on, has the keysym of g.
+fn keyboard() -> [u8; 1984] {
+    let mut map = [0u8; 1984];
+    map[272] = b'g';
+    map
 }
 
 // The first call of the production that was selected.
@@ -30,53 +56,88 @@ fn show(table: &[u8], text: &[u8], label: &[u8], matched: Matched) {
     let Matched::Selected(p) = matched else {
         return;
     };
-    io::write_all(STDOUT_FILENO, label);
-    io::write_all(STDOUT_FILENO, b": ");
-    io::write_all(STDOUT_FILENO, calls::name(table, text, text, p, 0));
-    io::write_all(STDOUT_FILENO, b"(");
-    io::write_all(STDOUT_FILENO, calls::parameter(table, text, text, p, 0, 0));
-    io::write_all(STDOUT_FILENO, b")\n");
+    put(label);
+    put(b": ");
+    put(calls::name(table, text, text, p, 0));
+    put(b"(");
+    put(calls::parameter(table, text, text, p, 0, 0));
+    put(b")\n");
 }
 
-// One event of button 1.
-fn event(table: &[u8], text: &[u8], state: State, code: u8, time: u32, label: &[u8]) -> State {
-    let map = [0u8; 1984];
-    let r = record(code, time);
+fn hear(table: &[u8], text: &[u8], state: State, r: [u8; 32], label: &[u8]) -> State {
+    let map = keyboard();
     let answer = matcher::match_event(table, &map, MULTI_CLICK_TIME, state, &r, b'l');
     let matched = answer.matched;
     show(table, text, label, matched);
     answer.state
 }
 
-// Press and release, 20 milliseconds apart.
-fn click(table: &[u8], text: &[u8], state: State, time: u32, label: &[u8]) -> State {
-    let pressed = event(table, text, state, PRESS, time, label);
+// Press and release of button 1, 20 milliseconds apart.
+fn click(table: &[u8], text: &[u8], state: State, modifiers: u8, time: u32, label: &[u8]) -> State {
+    let press = record(BUTTON_PRESS, 1, modifiers, time);
+    let pressed = hear(table, text, state, press, label);
     let later = std::num::wrapping_add_u32(time, 20);
-    event(table, text, pressed, RELEASE, later, label)
+    let release = record(BUTTON_RELEASE, 1, modifiers, later);
+    hear(table, text, pressed, release, label)
+}
+
+fn key(table: &[u8], text: &[u8], state: State, modifiers: u8, time: u32, label: &[u8]) -> State {
+    let press = record(KEY_PRESS, KEYCODE_G, modifiers, time);
+    hear(table, text, state, press, label)
+}
+
+fn three_clicks(table: &[u8], text: &[u8], s: State) -> State {
+    let s = click(table, text, s, NONE, 1000, b"click at 1000");
+    let s = click(table, text, s, NONE, 1100, b"click at 1100, a double click");
+    click(
+        table,
+        text,
+        s,
+        NONE,
+        1200,
+        b"click at 1200, the third in a row",
+    )
+}
+
+// 4294967196 is 100 before the clock's wrap.
+fn across_the_wrap(table: &[u8], text: &[u8], s: State) -> State {
+    let s = click(table, text, s, NONE, 4294967196, b"click at 4294967196");
+    let s = click(table, text, s, NONE, 99, b"click at 99, 199 ms later");
+    let s = click(table, text, s, NONE, 4294967196, b"click at 4294967196");
+    click(table, text, s, NONE, 100, b"click at 100, 200 ms later")
+}
+
+fn with_caps_lock(table: &[u8], text: &[u8], s: State) -> State {
+    let s = key(table, text, s, CTRL, 9000, b"Ctrl G at 9000");
+    let s = key(
+        table,
+        text,
+        s,
+        CTRL_LOCK,
+        9100,
+        b"Ctrl G at 9100, Caps Lock on",
+    );
+    let s = key(table, text, s, NONE, 9200, b"G at 9200");
+    click(table, text, s, LOCK, 9300, b"click at 9300, Caps Lock on")
 }
 
 fn run(table: &[u8], text: &[u8]) {
+    put(text);
+    put(b"\n");
     let s = State::fresh();
-    let s = click(table, text, s, 1000, b"click at 1000");
-    let s = click(table, text, s, 1100, b"click at 1100");
-    let s = click(table, text, s, 1200, b"click at 1200");
-    let s = click(table, text, s, 5000, b"click at 5000");
-    let s = click(table, text, s, 4294967196, b"click at 4294967196");
-    let s = click(table, text, s, 99, b"click at 99");
-    let s = click(table, text, s, 4294967196, b"click at 4294967196");
-    click(table, text, s, 100, b"click at 100");
+    let s = three_clicks(table, text, s);
+    let s = across_the_wrap(table, text, s);
+    with_caps_lock(table, text, s);
 }
 
 fn main() {
-    let text = b"<Btn1Down>(2): grant(space)\n<Btn1Down>: look(bucket)\n";
+    let text = b"<Btn1Down>(2): grant(space)\n<Btn1Down>: look(bucket)\nCtrl<Key>g: grant(space)\n";
     let mut table = [0u8; 5904];
     match compiler::compile(text, &mut table) {
         Compiled::Accepted => run(&table, text),
         Compiled::Refused {
             number: _,
             place: _,
-        } => {
-            io::write_all(STDOUT_FILENO, b"the table is refused\n");
-        }
+        } => put(b"the table is refused\n"),
     }
 }
