@@ -4,6 +4,9 @@ use glykorant_reference::Number;
 use std::fmt;
 use std::ops::AddAssign;
 
+/// So often, at least, the gate's run has each number answered.
+const OFTEN: u64 = 100;
+
 /// How often each number was answered.
 #[derive(Clone, Debug, Default)]
 pub struct Numbers([u64; Number::COUNT]);
@@ -17,8 +20,9 @@ impl Numbers {
         self.0.iter().sum()
     }
 
-    pub fn of(&self, number: Number) -> u64 {
-        self.0[number.index()]
+    /// Each of the numbers was answered often.
+    fn each_of(&self, numbers: &[usize]) -> bool {
+        numbers.iter().all(|&number| self.0[number] >= OFTEN)
     }
 }
 
@@ -80,20 +84,21 @@ impl AddAssign<&Counts> for Counts {
 }
 
 impl Counts {
-    /// What the gate's run goes over at least.
+    /// What the gate's run goes over at least, with every number that an operation can give.
     pub fn are_enough(&self) -> bool {
-        let compiler = [0, 1, 2, 3, 4, 5, 6, 7, 8, 9, 10, 11];
-        self.compiled.total() >= 200_000
-            && compiler.iter().all(|&number| self.compiled.0[number] >= 50)
+        let damaged = self.damaged_tables + self.damaged_states;
+        self.compiled
+            .each_of(&[0, 1, 2, 3, 4, 5, 6, 7, 8, 9, 10, 11])
+            && self.merged.each_of(&[0, 1, 11, 12, 17])
+            && self.written.each_of(&[0, 1, 12])
+            && self.asked.each_of(&[0, 1, 12, 16])
+            && self.matched.each_of(&[0, 1, 12, 13, 14])
+            && self.compiled.total() >= 200_000
             && self.merged.total() >= 20_000
             && self.written.total() >= 20_000
-            && self.merged.of(Number::AlreadyMerged) >= 100
-            && self.merged.of(Number::LimitPassed) >= 100
             && self.matched.total() >= 2_000_000
             && self.selections >= 500_000
-            && self.matched.of(Number::StateNotWhole) >= 10_000
-            && self.matched.of(Number::TableNotWhole) >= 10_000
-            && self.damaged_tables + self.damaged_states >= 100_000
+            && damaged >= 100_000
             && self.whole_damaged_tables >= 10_000
             && self.whole_damaged_states >= 10_000
     }
