@@ -69,8 +69,18 @@ fn check(text: &[u8]) {
     }
 }
 
+// Whether standard input can be read, as a folder or a closed one cannot: a read of no bytes does not fail.
+fn is_readable() -> bool {
+    let mut none = [0u8; 1];
+    libc::read(STDIN_FILENO, &mut none[..0]) >= 0
+}
+
 // The buffer is longer than any text that is accepted, so a longer text is seen to be too long.
 fn main() {
+    if !is_readable() {
+        put(b"standard input cannot be read\n");
+        return;
+    }
     let mut text = io::large_buffer();
     let n = io::read_full(STDIN_FILENO, &mut text);
     check(&text[..n]);

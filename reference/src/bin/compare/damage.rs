@@ -9,8 +9,8 @@ use glykorant_reference::layout::{Section, Used, STATE_BYTES, TABLE_BYTES};
 use glykorant_reference::Table;
 
 /// Values at the ends of ranges.
-const EDGES: [u16; 21] = [
-    0, 1, 2, 3, 4, 5, 6, 7, 8, 9, 10, 24, 25, 34, 35, 64, 255, 8191, 8192, 0x1FFF, 0xFFFF,
+const EDGES: [u16; 20] = [
+    0, 1, 2, 3, 4, 5, 6, 7, 8, 9, 10, 24, 25, 34, 35, 64, 255, 8191, 8192, 0xFFFF,
 ];
 
 /// Bytes at the ends of the ranges of an event's code, keycode and state.
@@ -36,11 +36,8 @@ impl Comparison {
             true => self.merge(&damaged, given)?,
             false => self.merge(given, &damaged)?,
         };
-        let played = match &damaged.table {
-            Ok(table) => table.clone(),
-            Err(_) => table.clone(),
-        };
-        self.match_some(&damaged, &played)
+        let played = damaged.table.as_ref().unwrap_or(table);
+        self.match_some(&damaged, played)
     }
 
     /// A few calls with a table, from a fresh state on.

@@ -2,7 +2,7 @@
 
 use crate::capi;
 use crate::lent::Lent;
-use crate::tables::{answers, ensure, Compared, Comparison, Given};
+use crate::tables::{answers, Compared, Comparison, Given};
 use glykorant_reference::generate::events::{EventList, RecordCall};
 use glykorant_reference::keyboard::MAP_LENGTH;
 use glykorant_reference::layout::{self, Context, STATE_BYTES};
@@ -57,10 +57,6 @@ impl<'l> Running<'l> {
             state: Lent::new(&mut comparison.random, bytes),
             matcher,
         }
-    }
-
-    pub fn kept(&self) -> Option<Context> {
-        self.matcher.as_ref().ok().map(Matcher::kept)
     }
 }
 
@@ -187,8 +183,6 @@ impl Comparison {
         };
         let mut refused = Running::new(self, state, given, &other);
         self.call(given, &other, &mut refused, call)?;
-        ensure(refused.kept().is_none(), || {
-            "a map of another length was taken".to_string()
-        })
+        Ok(())
     }
 }
