@@ -19,26 +19,24 @@ static const uint8_t *text_bytes(void) { return (const uint8_t *)text; }
 static size_t text_length(void) { return strlen(text); }
 
 /* A button event as the server sends it, least significant byte first. */
-static void button_event(uint8_t record[32], uint8_t code, uint32_t time)
+static void button_event(uint8_t record[TT_RECORD_LENGTH], uint8_t code, uint32_t time)
 {
-    memset(record, 0, 32);
+    memset(record, 0, TT_RECORD_LENGTH);
     record[0] = code;
     record[1] = 1;
     for (int i = 0; i < 4; i++)
         record[4 + i] = (uint8_t)(time >> (8 * i));
 }
 
-/* A part of a text: 65,536 * start + 2^32 * length. The table is not merged, so it is the first text's. */
+/* A part of the text. The table is not merged, so every part is one of its first text. */
 static void put_part(uint64_t answer)
 {
-    size_t start = (answer >> 16) & 0xFFFF;
-    size_t length = answer >> 32;
-    fwrite(text + start, 1, length, stdout);
+    fwrite(text + TT_START(answer), 1, TT_LENGTH(answer), stdout);
 }
 
 static void put_call(size_t production, size_t call)
 {
-    size_t parameters = tt_parameters(table, sizeof table, production, call) >> 8;
+    size_t parameters = TT_VALUE(tt_parameters(table, sizeof table, production, call));
     put_part(tt_name(table, sizeof table, text_bytes(), text_length(), text_bytes(), 0, production, call));
     for (size_t i = 0; i < parameters; i++) {
         fputs(i == 0 ? "(" : ", ", stdout);
@@ -50,18 +48,18 @@ static void put_call(size_t production, size_t call)
 /* Hears one event, and prints the calls of the production that it selects. */
 static void hear(uint8_t code, uint32_t time)
 {
-    uint8_t record[32];
+    uint8_t record[TT_RECORD_LENGTH];
     button_event(record, code, time);
     uint64_t answer = tt_match(table, sizeof table, map, sizeof map, MULTI_CLICK_TIME,
                                state, sizeof state, record, sizeof record, 'l');
-    if ((answer & 0xFF) != 0) {
-        printf("refused with %d\n", (int)(answer & 0xFF));
+    if (TT_NUMBER(answer) != TT_ACCEPTED) {
+        printf("refused with %u\n", TT_NUMBER(answer));
         return;
     }
-    size_t selected = answer >> 8;
+    size_t selected = TT_VALUE(answer);
     if (selected == 0)
         return;
-    size_t calls = tt_calls(table, sizeof table, selected - 1) >> 8;
+    size_t calls = TT_VALUE(tt_calls(table, sizeof table, selected - 1));
     for (size_t i = 0; i < calls; i++) {
         printf("%s at %lu: ", code == BUTTON_PRESS ? "press" : "release", (unsigned long)time);
         put_call(selected - 1, i);
@@ -71,8 +69,8 @@ static void hear(uint8_t code, uint32_t time)
 int main(void)
 {
     uint64_t answer = tt_compile(text_bytes(), text_length(), table, sizeof table);
-    if (answer != 0) {
-        printf("refused with %d at byte %d\n", (int)(answer & 0xFF), (int)(answer >> 8));
+    if (TT_NUMBER(answer) != TT_ACCEPTED) {
+        printf("refused with %u at byte %u\n", TT_NUMBER(answer), (unsigned)TT_VALUE(answer));
         return 1;
     }
     tt_fresh(state, sizeof state);
