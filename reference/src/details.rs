@@ -161,7 +161,7 @@ fn number(digits: &[u8], radix: u32, largest: u32) -> Option<Detail> {
 
 /// A value as the writer gives it. A table's bytes can hold values that no text gives, of which
 /// 01 says nothing; there this follows the definitions (crates/model/specs/Canonical.antt): a
-/// detail of a type that takes none reads as mapping's, and a decimal has three digits at most.
+/// detail of a type that takes none reads as mapping's.
 pub fn canonical(code: u8, value: u32) -> String {
     let known = match taken(code) {
         Taken::Keysym => return format!("{value:#x}"),
@@ -170,9 +170,6 @@ pub fn canonical(code: u8, value: u32) -> String {
     };
     match known.iter().find(|&&(_, named)| named == value) {
         Some((name, _)) => name.to_string(),
-        None if value > MOST_THREE_DIGITS => format!("{:03}", value % (MOST_THREE_DIGITS + 1)),
         None => value.to_string(),
     }
 }
-
-const MOST_THREE_DIGITS: u32 = 999;
