@@ -5,22 +5,27 @@ use borrow.Author.Tests.{lt-ltb, le-ltb, ltb-true, ltb-false, eq-eqb, not-false}
 use mathlib.Core.Path.{_≡_, refl, sym, ap, _∙_}
 use mathlib.Core.Bool.{Bool, true, false, not, false≢true}
 use mathlib.Core.List.{List, _++_}
-use mathlib.Core.Option.{none}
+use mathlib.Core.Option.{Option, none, some}
 use lib.Dec.{eqb, ltb}
 use lib.ListN.{length, drop}
 use lib.Seq.{drop-at}
 use Rattle.model.specs.Numbers.{matchOrder, matchedNumber, matchedSelection}
-use Rattle.model.specs.Records.{isBadRecord, recordRead}
-use Rattle.model.specs.Demand.{MatchCall}
+use Rattle.model.specs.Tables.{Table}
+use Rattle.model.specs.Records.{codeOf, eventOf, isBadRecord, recordRead}
+use Rattle.model.specs.Matching.{readingOf}
+use Rattle.model.specs.Demand.{MatchCall, selection}
+use Rattle.model.specs.declared.events.Event.{Event}
+use Rattle.model.specs.declared.answers.RecordRead.{RecordRead}
 use Rattle.model.specs.declared.answers.Matched.{Matched}
-use Rattle.machine.specs.Kept.{passesContext}
+use Rattle.machine.specs.Kept.{Kept, Step, choice, passesContext, stepNumber, refuse, dropEvent, hear, act, stepped}
 use Rattle.keyboard.specs.Maps.{mapNumbers}
 use Rattle.tables.specs.Reading.{decode}
 use Rattle.tables.specs.Whole.{whole}
 use Rattle.tables.proofs.Positions.{cond-both}
 use Rattle.matcher.specs.declared.state.State.{State}
 use Rattle.matcher.specs.State.{wholeState, keptOf}
-use Rattle.matcher.specs.Match.{refusedWith, tooShort, matchNumber, callAnswer}
+use Rattle.matcher.specs.declared.Answer.{Answer}
+use Rattle.matcher.specs.Match.{answerOf, refusedWith, tooShort, matchNumber, callAnswer}
 use Rattle.matcher.proofs.StateLaws.{state-facts}
 use Rattle.capi.specs.State.{stateLength, store, load}
 use Rattle.capi.specs.Match.{stored, keeps, leftBy, matchedOn, stateLeft}
@@ -47,6 +52,48 @@ unfolding leftBy
 past-left l a s w =
     cond-both (λ (x : List ℕ). drop 200 x ≡ drop 200 l) (keeps a) l (stored s l)
     (λ _. refl) (λ _. drop-at (store s) (drop 200 l) 200 (length-store s (state-facts s w)))
+
+-- ---- 14 is given for a state that is not whole alone
+
+abbrev Not14 : Matched → Type 0
+Not14 a = matchedNumber a ≡ 14 → ⊥
+
+order-not : (a b d e : Bool) → matchOrder a b false d e ≡ 14 → ⊥
+order-not true b d e z = omega arith
+order-not false true d e z = omega arith
+order-not false false true e z = omega arith
+order-not false false false true z = omega arith
+order-not false false false false z = omega arith
+
+module _ (t : Table) (keys : List ℕ) (limit : ℕ) where
+  selection-not : (o : Option ℕ) → Not14 (selection t keys limit o)
+  selection-not none z = omega arith
+  selection-not (some p) z = omega arith
+
+  event-not : (k : Kept Event) (x : Event) → Not14 (act t keys limit k (RecordRead.Event x) .answer)
+  event-not k x =
+      cond-both (λ (s : Step). Not14 (s .answer)) (readingOf t keys limit .known x) (hear t keys limit k x) (dropEvent t keys limit k)
+      (λ _. selection-not (choice (readingOf t keys limit) k x)) (λ _ z. omega arith)
+
+  read-not : (k : Kept Event) (c : MatchCall) → Not14 (act t keys limit k (recordRead (c .bytes) (c .order)) .answer)
+  unfolding recordRead
+  read-not k c =
+      cond-both (λ (r : RecordRead). Not14 (act t keys limit k r .answer)) (isBadRecord (c .bytes) (c .order)) (RecordRead.Refused 13) (RecordRead.Event (eventOf (c .bytes) (c .order) (codeOf (c .bytes))))
+      (λ _ z. omega arith) (λ _. event-not k (eventOf (c .bytes) (c .order) (codeOf (c .bytes))))
+
+  step-not : (k : Kept Event) (c : MatchCall) → Not14 (stepped t keys limit k c .answer)
+  unfolding stepped stepNumber
+  step-not k c =
+      cond-both (λ (s : Step). Not14 (s .answer)) (eqb (stepNumber t keys limit k c) 0) (act t keys limit k (recordRead (c .bytes) (c .order))) (refuse t keys limit (stepNumber t keys limit k c) k)
+      (λ _. read-not k c)
+      (λ _. order-not (not (eqb (length keys) 496)) false (isBadRecord (c .bytes) (c .order)) (passesContext t keys limit k (recordRead (c .bytes) (c .order))))
+
+whole-not : (table keys : List ℕ) (limit : ℕ) (s : State) (c : MatchCall) → wholeState s ≡ true → Not14 (callAnswer table keys limit s c .matched)
+unfolding callAnswer answerOf matchNumber
+whole-not table keys limit s c w =
+    cond-both (λ (a : Answer). Not14 (a .matched)) (eqb (matchNumber table keys limit s c) 0) (answerOf (stepped (decode table) keys limit (keptOf s) c)) (refusedWith (matchNumber table keys limit s c) s)
+    (λ _. step-not (decode table) keys limit (keptOf s) c)
+    (λ _ z. order-not (tooShort table keys) (not (whole table)) (isBadRecord (c .bytes) (c .order)) (passesContext (decode table) keys limit (keptOf s) (recordRead (c .bytes) (c .order))) (rw w at z))
 
 module _ (table keyboard : List ℕ) (limit : ℕ) (l : List ℕ) (c : MatchCall) where
   abbrev matched : Matched
@@ -123,6 +170,12 @@ module _ (table keyboard : List ℕ) (limit : ℕ) (l : List ℕ) (c : MatchCall
   past-by-length true e = ap (drop 200) (short-left (ltb-true (length l) 200 e))
   past-by-length false e = long-past (ltb-false (length l) 200 e) (eqb number 0) refl
 
+  only-by : (b w : Bool) → ltb (length l) 200 ≡ b → wholeState (load l) ≡ w → matchedNumber matched ≡ 14 → w ≡ false
+  only-by b false e q z = refl
+  only-by true true e q z = let k = short-number (ltb-true (length l) 200 e) in absurd (omega arith)
+  only-by false true e q z =
+      absurd (whole-not table (mapNumbers keyboard) limit (load l) c q (sym (ap matchedNumber (answer-is table keyboard limit l c (ltb-false (length l) 200 e))) ∙ z))
+
 pub every-call : EveryCall
 every-call table keyboard limit state bytes order =
     let c : MatchCall = record { bytes = bytes; order = order } in
@@ -130,5 +183,6 @@ every-call table keyboard limit state bytes order =
       accepted = λ z. accepted-by table keyboard limit state c (ltb (length state) 200) refl z;
       refused = λ f. (selects-none (matchedOn table keyboard limit state bytes order) f, refused-by table keyboard limit state c (ltb (length state) 200) refl f);
       notWhole = λ h a b d. not-whole table keyboard limit state c h a b d;
+      only = λ z. only-by table keyboard limit state c (ltb (length state) 200) (wholeState (load state)) refl refl z;
       past = past-by-length table keyboard limit state c (ltb (length state) 200) refl;
     }

@@ -37,10 +37,13 @@ pub record CallLaws (table keyboard : List ℕ) (limit : ℕ) (state bytes : Lis
       (matchedNumber (matchedOn table keyboard limit state bytes order) ≡ 0 → ⊥)
       → (matchedSelection (matchedOn table keyboard limit state bytes order) ≡ none)
       × (stateLeft table keyboard limit state bytes order ≡ state)
-  -- 14, exactly where no lent buffer is short, the table is whole, and the bytes load to no whole state
+  -- 14 where no lent buffer is short, the table is whole, and the bytes load to no whole state
   pub notWhole :
       stateLength ≤ length state → tooShort table (mapNumbers keyboard) ≡ false → whole table ≡ true
       → wholeState (load state) ≡ false → matchedOn table keyboard limit state bytes order ≡ Matched.Refused stateNotWhole
+  -- and only for bytes that load to no whole state
+  pub only :
+      matchedNumber (matchedOn table keyboard limit state bytes order) ≡ stateNotWhole → wholeState (load state) ≡ false
   -- bytes past the state stay
   pub past : drop stateLength (stateLeft table keyboard limit state bytes order) ≡ drop stateLength state
 

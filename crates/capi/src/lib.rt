@@ -15,6 +15,7 @@ ghost use Rattle.capi.specs.Answers.{compileAnswer, compiledWord, merged
 
 // ---- Lengths
 
+// How many bytes a table has.
 #[no_mangle]
 pub extern "C" fn tt_table_length() -> usize
     ensures { λ r. ⌜ r ≡ tableLength ⌝ }
@@ -22,6 +23,7 @@ pub extern "C" fn tt_table_length() -> usize
     tables::TABLE_LENGTH
 }
 
+// How many bytes a state has.
 #[no_mangle]
 pub extern "C" fn tt_state_length() -> usize
     ensures { λ r. ⌜ r ≡ stateLength ⌝ }
@@ -31,6 +33,7 @@ pub extern "C" fn tt_state_length() -> usize
 
 // ---- Tables
 
+// The number, and the place above it.
 #[no_mangle]
 pub extern "C" fn tt_compile(text: &[u8], table: &mut [u8]) -> u64
     ensures { λ r. ⌜ r ≡ compiledWord (compileAnswer (now (text .entry)) (now (table .entry))) ⌝ }
@@ -39,6 +42,7 @@ pub extern "C" fn tt_compile(text: &[u8], table: &mut [u8]) -> u64
     answers::compiled_word(compiler::compile(text, table))
 }
 
+// The number.
 #[no_mangle]
 pub extern "C" fn tt_merge(old: &[u8], new: &[u8], out: &mut [u8]) -> u64
     ensures { λ r. ⌜ r ≡ mergedWord (mergeAnswer (now (old .entry)) (now (new .entry)) (now (out .entry))) ⌝ }
@@ -47,6 +51,7 @@ pub extern "C" fn tt_merge(old: &[u8], new: &[u8], out: &mut [u8]) -> u64
     answers::merged_word(merger::merge(old, new, out))
 }
 
+// The number, and the length of the text above it.
 #[no_mangle]
 pub extern "C" fn tt_write(table: &[u8], first: &[u8], second: &[u8], out: &mut [u8]) -> u64
     ensures { λ r. ⌜ r ≡ writtenWord (written (now (table .entry)) (now (first .entry)) (now (second .entry)) (now (out .entry))) ⌝ }
@@ -57,6 +62,7 @@ pub extern "C" fn tt_write(table: &[u8], first: &[u8], second: &[u8], out: &mut 
 
 // ---- What a table has
 
+// The number, and the count above it.
 #[no_mangle]
 pub extern "C" fn tt_productions(table: &[u8]) -> u64
     ensures { λ r. ⌜ r ≡ countedWord (productionsAnswer (now (table .entry))) ⌝ }
@@ -64,6 +70,7 @@ pub extern "C" fn tt_productions(table: &[u8]) -> u64
     answers::counted_word(calls::productions(table))
 }
 
+// The same of the calls of a production.
 #[no_mangle]
 pub extern "C" fn tt_calls(table: &[u8], production: usize) -> u64
     ensures { λ r. ⌜ r ≡ countedWord (callsAnswer (now (table .entry)) production) ⌝ }
@@ -71,6 +78,7 @@ pub extern "C" fn tt_calls(table: &[u8], production: usize) -> u64
     answers::counted_word(calls::call_count(table, production))
 }
 
+// The same of the parameters of a call.
 #[no_mangle]
 pub extern "C" fn tt_parameters(table: &[u8], production: usize, call: usize) -> u64
     ensures { λ r. ⌜ r ≡ countedWord (parametersAnswer (now (table .entry)) production call) ⌝ }
@@ -78,6 +86,7 @@ pub extern "C" fn tt_parameters(table: &[u8], production: usize, call: usize) ->
     answers::counted_word(calls::parameter_count(table, production, call))
 }
 
+// The number, the mark of the text, and where the name of a call stands in it.
 #[no_mangle]
 pub extern "C" fn tt_name(
     table: &[u8],
@@ -91,6 +100,7 @@ pub extern "C" fn tt_name(
     answers::located_word(calls::locate_name(table, first, second, production, call))
 }
 
+// The same of a parameter, without its quotes.
 #[no_mangle]
 pub extern "C" fn tt_parameter(
     table: &[u8],
@@ -114,7 +124,7 @@ pub extern "C" fn tt_parameter(
 
 // ---- Matching
 
-// Leaves a fresh state, which holds no events.
+// Leaves a fresh state, which holds no events: the number.
 #[no_mangle]
 pub extern "C" fn tt_fresh(state: &mut [u8]) -> u64
     ensures { λ r. ⌜ r ≡ freshNumber (now (state .entry)) ⌝ }
@@ -127,7 +137,7 @@ pub extern "C" fn tt_fresh(state: &mut [u8]) -> u64
     0
 }
 
-// One event. The state is loaded, and stored again only where the event is heard.
+// The number, and the selection above it. The state is loaded, and stored again only where the event is heard.
 #[no_mangle]
 pub extern "C" fn tt_match(
     table: &[u8],

@@ -93,9 +93,8 @@ pub fn store_state(out: &mut [u8], s: State)
     requires { ⌜ 200 ≤ length (now out) ⌝ }
     ensures { λ r. ⌜ now (out .exit) ≡ store s ++ drop 200 (now (out .entry)) ⌝ }
 {
-    let events = s.events;
     store_marks(out, s.kept, s.selected, s.open);
-    store_events(out, &events);
+    store_events(out, &s.events);
 }
 
 // After a refusal and after a dropped event no byte is touched.

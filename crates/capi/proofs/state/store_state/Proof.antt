@@ -7,9 +7,6 @@ use Rattle.capi.proofs.state.store_state.Tie as tie
 store-marks-requires : tie.Need-store-marks-requires
 store-marks-requires c κs = search needs
 
-slice-aggregate-store-events : tie.Need-slice-aggregate-store-events
-slice-aggregate-store-events c = search needs
-
 store-events-requires : tie.Need-store-events-requires
 store-events-requires c κs = search needs
 
@@ -18,15 +15,9 @@ same-length c = search needs
 
 returns : tie.Need-returns
 returns c =
-    let a = c .before .before .before .before .before .before .before .before .before .before .before .args in
-    state-stored (a .s) (a .out .now) _ _ (c .before .before .before .before .before .before .before .store-marks .ensures) (c .before .before .store-events .ensures)
+    let a = c .before .before .before .before .before .before .before .before .before .before .before .before .args in
+    state-stored (a .t2) (a .out .now) _ _ (c .before .before .before .before .before .before .before .before .before .store-marks .ensures) (c .before .before .store-events .ensures)
 
 pub store-state-spec : {M : Type 1} → statement M
 store-state-spec =
-    tie.close
-    (tie.spec
-    store-marks-requires
-    slice-aggregate-store-events
-    store-events-requires
-    same-length
-    returns)
+    tie.close (tie.spec store-marks-requires store-events-requires same-length returns)
