@@ -1,4 +1,4 @@
--- Every keysym that a pair gives folds to what one of its two does.
+-- Every keysym that a pair gives folds to what one of its two does; where the second is 0, to what the first does.
 use Prim.Native.Nat.{ℕ, _+_, _-_, _*_, _/_, _%_, _≤_, _<_}
 use native.Mathlib.Omega.{arith}
 use borrow.Author.Tests.{eqb-true, eq-eqb}
@@ -97,7 +97,7 @@ lower-folds k = go (isUpper k) refl
 module _ (a b : ℕ) where
   -- folds to what one of the two does
   abbrev pub among : ℕ → Bool
-  among w = eqb w (folded a) || eqb w (folded b)
+  among w = eqb w (folded a) || eqb w (folded (cond (eqb b 0) a b))
 
   first-in : (w : ℕ) → w ≡ folded a → among w ≡ true
   first-in w e = rw (eq-eqb w (folded a) e)
@@ -106,8 +106,8 @@ module _ (a b : ℕ) where
   or-true true = refl
   or-true false = refl
 
-  second-in : (w : ℕ) → w ≡ folded b → among w ≡ true
-  second-in w e = rw (eq-eqb w (folded b) e) (or-true (eqb w (folded a)))
+  second-in : (w : ℕ) → eqb b 0 ≡ false → w ≡ folded b → among w ≡ true
+  second-in w q e = rw (q, eq-eqb w (folded b) e) (or-true (eqb w (folded a)))
 
   picked-in : (shift : Bool) → among (folded (picked a b shift)) ≡ true
   unfolding picked
@@ -115,7 +115,7 @@ module _ (a b : ℕ) where
     where
       go : (t : Bool) → eqb b 0 ≡ t → among (folded (cond t (upper a) b)) ≡ true
       go true q = first-in (folded (upper a)) (upper-folds a)
-      go false q = second-in (folded b) refl
+      go false q = second-in (folded b) q refl
   picked-in false = go (eqb b 0) refl
     where
       go : (t : Bool) → eqb b 0 ≡ t → among (folded (cond t (lower a) a)) ≡ true

@@ -5,6 +5,7 @@ use Prim.Native.Nat.{ℕ, _-_, _*_, _/_, _%_}
 unfoldable pub fold : ℕ → ℕ
 fold w = w - 32 * (w / 32 % 2)
 
--- of a keysym; every keysym that a pair gives folds to what one of its two does (proofs/Folds)
+-- of a keysym; every keysym that a pair gives folds to what one of its two does or, where the second is 0, to what the first
+-- does (proofs/Folds)
 unfoldable pub folded : ℕ → ℕ
 folded k = fold (k % 65536)

@@ -18,18 +18,18 @@ use Rattle.keyboard.proofs.Folds.{asked-in}
 use Rattle.model.specs.Counts.{expanded, quick}
 use Rattle.model.specs.Matching.{detailMet}
 use Rattle.model.specs.Keyboard.{firstKeysym, secondKeysym}
-use Rattle.model.specs.Modifiers.{stateMeets}
+use Rattle.model.specs.Modifiers.{bitsMet, clauseMet, stateMeets}
 use Rattle.model.specs.declared.events.Event.{Event}
 use Rattle.records.specs.Ranges.{EventRanges}
 use Rattle.counts.specs.Elements.{releases, elementCount, elementCode}
-use Rattle.tables.specs.Layout.{codesAt, countsAt, lowsAt, highsAt}
+use Rattle.tables.specs.Layout.{codesAt, countsAt, setsAt, clearsAt, lowsAt, highsAt}
 use Rattle.tables.specs.Reading.{isFlag, eventOf, eventAt, eventCount, productionCount, productionEvents, eventsFrom, productionAt, decode}
 use Rattle.matcher.specs.declared.filter.Sought.{Sought}
 use Rattle.matcher.specs.declared.walk.Followed.{Followed}
 use Rattle.matcher.specs.declared.walk.Passed.{Passed}
 use Rattle.matcher.specs.State.{zeroEvent}
 use Rattle.matcher.specs.Walk.{eventMeets, detailAsked, flagsIn, valueIn, elementOf, fitsAfter, sizeIn, walked, followed, passed}
-use Rattle.matcher.specs.Filter.{soughtOf, codeSeems, detailSeems, seems, begins, cannotBegin}
+use Rattle.matcher.specs.Filter.{other, soughtOf, suits, codeSeems, detailSeems, seems, begins, cannotBegin}
 use Rattle.matcher.proofs.TableFacts.{EntryFacts, TableFacts}
 use Rattle.matcher.proofs.EventLaws.{meets-detail}
 use Rattle.matcher.proofs.FollowLaws.{target, Walks, walks-start, walks-other, walks-over, walks-no, walks-turn}
@@ -87,46 +87,57 @@ pub sought-below : (map : List ℕ) (x : Event) → EventRanges x → (s : Sough
 unfolding soughtOf
 sought-below map x r s e = rw e (r .code-most)
 
+pub sought-state : (map : List ℕ) (x : Event) → EventRanges x → (s : Sought) → s ≡ soughtOf map x → s .state < 8192
+unfolding soughtOf
+sought-state map x r s e = rw e (r .state-most)
+
 state-part : (map l : List ℕ) (i : ℕ) (x : Event) → eventMeets map (eventAt l i) x ≡ true
     → stateMeets (eventAt l i .set) (eventAt l i .clear) (isFlag 2 (flagsIn l i)) (x .state) ≡ true
 unfolding eventMeets eventAt eventOf flagsIn
 state-part map l i x m =
     and-left (stateMeets (eventAt l i .set) (eventAt l i .clear) (isFlag 2 (flagsIn l i)) (x .state)) (detailMet map (eventAt l i) (eventAt l i .detail) x) m
 
+suits-state : (map l : List ℕ) (i : ℕ) (x : Event)
+    → stateMeets (eventAt l i .set) (eventAt l i .clear) (isFlag 2 (flagsIn l i)) (x .state) ≡ true → suits l i (soughtOf map x) ≡ true
+unfolding suits stateMeets soughtOf eventAt eventOf
+suits-state map l i x m =
+    and-both (bitsMet (wordAt l (setsAt + i)) (wordAt l (clearsAt + i)) (x .state)) true
+    (and-left (bitsMet (wordAt l (setsAt + i)) (wordAt l (clearsAt + i)) (x .state)) (clauseMet (isFlag 2 (flagsIn l i)) (x .state)) m) refl
+
 module _ (map : List ℕ) (x : Event) where
-  none-asked : (low : ℕ) → low ≡ 0 → detailSeems (fold low) (soughtOf map x) ≡ true
-  unfolding detailSeems fold
+  none-asked : (low : ℕ) → low ≡ 0 → detailSeems low (soughtOf map x) ≡ true
+  unfolding detailSeems
   none-asked low e = rw e
 
   or-assoc : (a b c : Bool) → (b || c) ≡ true → (a || b || c) ≡ true
   or-assoc true b c e = refl
   or-assoc false b c e = e
 
-  asked : (set clear : ℕ) (colon : Bool) (value : ℕ) → detailAsked map set clear colon value x ≡ true
-      → detailSeems (folded value) (soughtOf map x) ≡ true
+  asked : (set clear : ℕ) (colon : Bool) (value low : ℕ) → folded value ≡ fold low → detailAsked map set clear colon value x ≡ true
+      → detailSeems low (soughtOf map x) ≡ true
   unfolding detailAsked detailSeems soughtOf
-  asked set clear colon value e = go (leb (x .code) 3) refl
+  asked set clear colon value low w e = go (leb (x .code) 3) refl
     where
-      go : (t : Bool) → leb (x .code) 3 ≡ t → detailSeems (folded value) (soughtOf map x) ≡ true
+      go : (t : Bool) → leb (x .code) 3 ≡ t → detailSeems low (soughtOf map x) ≡ true
       go true q =
-          rw q
-          (or-assoc (eqb (folded value) 0) (eqb (folded value) (folded (firstKeysym map (x .detail)))) (eqb (folded value) (folded (secondKeysym map (x .detail))))
+          rw (q, ← w)
+          (or-assoc (eqb low 0) (eqb (folded value) (folded (firstKeysym map (x .detail))))
+          (eqb (folded value) (folded (other (firstKeysym map (x .detail)) (secondKeysym map (x .detail)))))
           (asked-in (firstKeysym map (x .detail)) (secondKeysym map (x .detail)) value set clear colon (x .state) (rw q at e)))
       go false q =
           let p : x .detail ≡ value = eqb-true (x .detail) value (rw q at e) in
-          rw (q, p, eq-eqb (folded value) (folded value) refl) (or-assoc (eqb (folded value) 0) true true refl)
+          rw (q, p, ← w, eq-eqb (folded value) (folded value) refl) (or-assoc (eqb low 0) true true refl)
 
   module _ (l : List ℕ) (b : Bytes l) (i : ℕ) (f : EntryFacts l i) (r : EventRanges x) where
-    detail-seems : eventMeets map (eventAt l i) x ≡ true → detailSeems (fold (wordAt l (lowsAt + i))) (soughtOf map x) ≡ true
+    detail-seems : eventMeets map (eventAt l i) x ≡ true → detailSeems (wordAt l (lowsAt + i)) (soughtOf map x) ≡ true
     detail-seems m = go (isFlag 4 (flagsIn l i)) refl
       where
         state-met : stateMeets (eventAt l i .set) (eventAt l i .clear) (isFlag 2 (flagsIn l i)) (x .state) ≡ true
         state-met = state-part map l i x m
 
-        go : (t : Bool) → isFlag 4 (flagsIn l i) ≡ t → detailSeems (fold (wordAt l (lowsAt + i))) (soughtOf map x) ≡ true
+        go : (t : Bool) → isFlag 4 (flagsIn l i) ≡ t → detailSeems (wordAt l (lowsAt + i)) (soughtOf map x) ≡ true
         go true q =
-            ap (λ (w : ℕ). detailSeems w (soughtOf map x)) (sym (low-is l b i))
-            ∙ asked (eventAt l i .set) (eventAt l i .clear) (isFlag 1 (flagsIn l i)) (valueIn l i) (meets-detail map l i x r state-met q ∙ m)
+            asked (eventAt l i .set) (eventAt l i .clear) (isFlag 1 (flagsIn l i)) (valueIn l i) (wordAt l (lowsAt + i)) (low-is l b i) (meets-detail map l i x r state-met q ∙ m)
         go false q = none-asked (wordAt l (lowsAt + i)) (f .bare q)
 
     -- ---- The event
@@ -139,9 +150,23 @@ module _ (map : List ℕ) (x : Event) where
           (eventMeets map (eventAt l i) x ∷ (not (elementOf (eventAt l i) 0 .timed) || quick limit before (x .time)) ∷ []) e in
           let c : codeSeems (wordAt l (codesAt + i)) (soughtOf map x) ≡ true
           = rw (f .codeWord) (first-code (eventAt l i .code) (eventAt l i .count) (soughtOf map x) (f .codeLow) (eqb-true (elementCode (eventAt l i .code) (eventAt l i .count) 0) (x .code) (p .0) ∙ sought-code map x)) in
-          and-both (codeSeems (wordAt l (codesAt + i)) (soughtOf map x)) (detailSeems (fold (wordAt l (lowsAt + i))) (soughtOf map x)) c (detail-seems (p .1 .0))
+          and-both (codeSeems (wordAt l (codesAt + i)) (soughtOf map x)) (detailSeems (wordAt l (lowsAt + i)) (soughtOf map x)) c (detail-seems (p .1 .0))
+
+      suits-fits : fitsAfter map limit before (elementOf (eventAt l i) 0) x ≡ true → suits l i (soughtOf map x) ≡ true
+      unfolding fitsAfter elementOf
+      suits-fits e =
+          let p = chain-parts (eqb (elementCode (eventAt l i .code) (eventAt l i .count) 0) (x .code))
+          (eventMeets map (eventAt l i) x ∷ (not (elementOf (eventAt l i) 0 .timed) || quick limit before (x .time)) ∷ []) e in
+          suits-state map l i x (state-part map l i x (p .1 .0))
 
       -- an event that does not pass does not fit
+      pub fits-suits : suits l i (soughtOf map x) ≡ false → fitsAfter map limit before (elementOf (eventAt l i) 0) x ≡ false
+      fits-suits q = go (fitsAfter map limit before (elementOf (eventAt l i) 0) x) refl
+        where
+          go : (t : Bool) → fitsAfter map limit before (elementOf (eventAt l i) 0) x ≡ t → t ≡ false
+          go true e = absurd (true≢false (sym (suits-fits e) ∙ q))
+          go false e = refl
+
       pub fits-seems : seems l i (soughtOf map x) ≡ false → fitsAfter map limit before (elementOf (eventAt l i) 0) x ≡ false
       fits-seems q = go (fitsAfter map limit before (elementOf (eventAt l i) 0) x) refl
         where
@@ -160,6 +185,12 @@ module _ (map : List ℕ) (limit : ℕ) (l : List ℕ) (f : TableFacts l) (b : B
   -- whether event j fits the first element of event i
   abbrev fit : ℕ → ℕ → Bool
   fit i j = fitsAfter map limit (x j .time) (elementOf (eventAt l i) 0) (x j)
+
+  suits-not : suits l first (soughtOf map (x from)) ≡ false → target map limit l first n events from to ≡ Followed.No
+  suits-not q =
+      let h : first < eventCount l = omega arith in
+      walks-other map limit l first n events from to long room m o (fit first from) refl
+      (fits-suits map (x from) l b first (f .entry first h) (ranges from m) limit (x from .time) q)
 
   -- the first event of the stretch does not pass
   pub seems-not : seems l first (soughtOf map (x from)) ≡ false → target map limit l first n events from to ≡ Followed.No
@@ -208,16 +239,23 @@ module _ (map : List ℕ) (limit : ℕ) (l : List ℕ) (f : TableFacts l) (b : B
     unfolding begins
     begins-not q = go (seems l first (soughtOf map (x from))) refl
       where
-        go : (t : Bool) → seems l first (soughtOf map (x from)) ≡ t → target map limit l first n events from to ≡ Followed.No
-        go false e = seems-not e
-        go true e =
-            let r : (short || ltb 1 (wordAt l (countsAt + first)) || seems l (first + 1) two) ≡ false = rw e at q in
+        last : (short || ltb 1 (wordAt l (countsAt + first)) || seems l (first + 1) two) ≡ false → target map limit l first n events from to ≡ Followed.No
+        last r =
             let u : (short || ltb 1 (wordAt l (countsAt + first))) ≡ false = or-no-left (short || ltb 1 (wordAt l (countsAt + first))) (seems l (first + 1) two) r in
             let v : short ≡ false = or-no-left short (ltb 1 (wordAt l (countsAt + first))) u in
             let d : from + 1 ≡ to → ⊥ = eqb-false (from + 1) to (sym es ∙ v) in
             let h : from + 1 < to = omega arith in
             second-not (ltb-false 1 (wordAt l (countsAt + first)) (or-no-right short (ltb 1 (wordAt l (countsAt + first))) u)) h
             (ap (seems l (first + 1)) (sym (et h)) ∙ or-no-right (short || ltb 1 (wordAt l (countsAt + first))) (seems l (first + 1) two) r)
+
+        on : (t : Bool) → suits l first (soughtOf map (x from)) ≡ t → seems l first (soughtOf map (x from)) ≡ true
+            → target map limit l first n events from to ≡ Followed.No
+        on false e g = suits-not e
+        on true e g = last (rw (g, e) at q)
+
+        go : (t : Bool) → seems l first (soughtOf map (x from)) ≡ t → target map limit l first n events from to ≡ Followed.No
+        go false e = seems-not e
+        go true e = on (suits l first (soughtOf map (x from))) refl e
 
 -- ---- All productions
 

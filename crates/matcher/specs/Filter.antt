@@ -1,23 +1,30 @@
 -- A quick test of the events of a table. One that begins a production along which a stretch reads as a prefix passes it
 -- (proofs/FilterLaws), so a production whose first event does not pass need not be walked.
 use Prim.Native.Nat.{ℕ, _+_}
-use mathlib.Core.Bool.{Bool, cond, not, _&&_, _||_}
+use mathlib.Core.Bool.{Bool, false, cond, not, _&&_, _||_}
 use mathlib.Core.List.{List}
 use lib.Dec.{eqb, leb, ltb}
 use Rattle.words.specs.Words.{wordAt}
 use Rattle.keyboard.specs.Folds.{fold, folded}
 use Rattle.model.specs.Keyboard.{firstKeysym, secondKeysym}
+use Rattle.model.specs.Modifiers.{stateMeets}
 use Rattle.model.specs.declared.events.Event.{Event}
-use Rattle.tables.specs.Layout.{codesAt, countsAt, lowsAt}
+use Rattle.tables.specs.Layout.{codesAt, countsAt, setsAt, clearsAt, lowsAt}
 use Rattle.matcher.specs.declared.filter.Sought.{Sought}
 
--- what an event asks of the table's: its code, and its detail or, of a key, the two keysyms that the map has, folded
+-- the second keysym of a pair; where it is 0 the first stands for both
+abbrev pub other : ℕ → ℕ → ℕ
+other a b = cond (eqb b 0) a b
+
+-- what an event asks of the table's: its code, its state, and its detail or, of a key, the two keysyms that the map has,
+-- folded
 unfoldable pub soughtOf : List ℕ → Event → Sought
 soughtOf map x =
     record {
       code = x .code;
+      state = x .state;
       first = folded (cond (leb (x .code) 3) (firstKeysym map (x .detail)) (x .detail));
-      second = folded (cond (leb (x .code) 3) (secondKeysym map (x .detail)) (x .detail));
+      second = folded (cond (leb (x .code) 3) (other (firstKeysym map (x .detail)) (secondKeysym map (x .detail))) (x .detail));
     }
 
 -- a counted release begins with a press, whose code is one less
@@ -26,16 +33,21 @@ codeSeems own s = eqb own (s .code) || eqb own (s .code + 1)
 
 -- where no detail is asked for, the word is 0
 unfoldable pub detailSeems : ℕ → Sought → Bool
-detailSeems low s = eqb low 0 || eqb low (s .first) || eqb low (s .second)
+detailSeems low s = eqb low 0 || eqb (fold low) (s .first) || eqb (fold low) (s .second)
 
 -- event i of a table may be met first by what is sought
 unfoldable pub seems : List ℕ → ℕ → Sought → Bool
-seems l i s = codeSeems (wordAt l (codesAt + i)) s && detailSeems (fold (wordAt l (lowsAt + i))) s
+seems l i s = codeSeems (wordAt l (codesAt + i)) s && detailSeems (wordAt l (lowsAt + i)) s
+
+-- the state has the bits that event i asks set, and lacks those that it asks clear
+unfoldable pub suits : List ℕ → ℕ → Sought → Bool
+suits l i s = stateMeets (wordAt l (setsAt + i)) (wordAt l (clearsAt + i)) false (s .state)
 
 -- it may begin a production for a stretch: one of a single event, or one whose second event meets the same event, if that
 -- is counted, or else the next
 unfoldable pub begins : List ℕ → (one : Sought) (short : Bool) (two : Sought) → ℕ → Bool
-begins l one short two i = seems l i one && (short || ltb 1 (wordAt l (countsAt + i)) || seems l (i + 1) two)
+begins l one short two i =
+    seems l i one && suits l i one && (short || ltb 1 (wordAt l (countsAt + i)) || seems l (i + 1) two)
 
 unfoldable pub cannotBegin : List ℕ → (one : Sought) (short : Bool) (two : Sought) → ℕ → Bool
 cannotBegin l one short two i = not (begins l one short two i)

@@ -1,6 +1,6 @@
 // A quick test of the events of a table, by two words of each: most productions are ruled out by it.
 ghost use mathlib.Core.Path.{_≡_};
-ghost use mathlib.Core.Bool.{true};
+ghost use mathlib.Core.Bool.{true, false};
 ghost use Prim.Native.Nat.{_+_, _≤_, _<_};
 ghost use lib.ListN.{length};
 ghost use Rattle.records.specs.Ranges.{EventRanges};
@@ -8,14 +8,23 @@ ghost use Rattle.words.specs.Runs.{every};
 ghost use Rattle.keyboard.specs.Maps.{mapNumbers};
 ghost use Rattle.tables.specs.Reading.{eventCount};
 ghost use Rattle.tables.specs.Whole.{whole};
-ghost use Rattle.matcher.specs.Filter.{soughtOf, seems, begins, cannotBegin};
+ghost use Rattle.matcher.specs.Filter.{other, soughtOf, codeSeems, detailSeems, seems, suits, begins, cannotBegin};
+use crate::reader;
 use model::events::Event;
 
-// What an event asks of the table's: its code, and its detail or, of a key, the keysyms of its pair, folded.
+// What an event asks of the table's: its code, its state, and its detail or, of a key, the keysyms of its pair, folded.
 pub struct Sought {
     pub code: u16,
+    pub state: u16,
     pub first: u16,
     pub second: u16,
+}
+
+// The second keysym of a pair; where it is 0 the first stands for both.
+fn other(a: u32, b: u32) -> u32
+    ensures { λ r. ⌜ r ≡ other a b ⌝ }
+{
+    if b == 0 { a } else { b }
 }
 
 pub fn sought_of(map: &[u8], x: Event) -> Sought
@@ -23,54 +32,112 @@ pub fn sought_of(map: &[u8], x: Event) -> Sought
     ensures { λ r. ⌜ r ≡ soughtOf (mapNumbers (now (map .entry))) x ⌝ }
 {
     let code = x.code as u16;
+    let state = x.state;
     if x.code <= 3 {
         let pair = keyboard::pair_at(map, x.detail);
         return Sought {
             code,
+            state,
             first: keyboard::folded(pair.first),
-            second: keyboard::folded(pair.second),
+            second: keyboard::folded(other(pair.first, pair.second)),
         };
     }
     let detail = keyboard::folded(x.detail as u32);
     Sought {
         code,
+        state,
         first: detail,
         second: detail,
     }
 }
 
+fn code_seems(own: u16, s: Sought) -> bool
+    requires { ⌜ s .code ≤ 34 ⌝ }
+    ensures { λ r. ⌜ r ≡ codeSeems own s ⌝ }
+{
+    let code = s.code;
+    (own == code) | (own == code + 1)
+}
+
+fn detail_seems(low: u16, s: Sought) -> bool
+    ensures { λ r. ⌜ r ≡ detailSeems low s ⌝ }
+{
+    let word = keyboard::fold(low);
+    let first = s.first;
+    let second = s.second;
+    (low == 0) | (word == first) | (word == second)
+}
+
 // Whether event i of a table may be met first by what is sought.
-pub fn seems(table: &[u8], i: usize, s: Sought) -> bool
+fn seems(table: &[u8], i: usize, s: Sought) -> bool
     requires { ⌜ (5904 ≤ length (now table)) × (i ≤ 256) × (s .code ≤ 34) ⌝ }
     ensures { λ r. ⌜ r ≡ seems (now (table .entry)) i s ⌝ }
 {
-    let own = words::word_at(table, crate::reader::CODES + i);
-    let low = keyboard::fold(words::word_at(table, crate::reader::LOWS + i));
-    let code = s.code;
-    let first = s.first;
-    let second = s.second;
-    ((own == code) | (own == code + 1)) & ((low == 0) | (low == first) | (low == second))
+    let own = words::word_at(table, reader::CODES + i);
+    let low = words::word_at(table, reader::LOWS + i);
+    code_seems(own, s) & detail_seems(low, s)
+}
+
+// The same, by the code alone where that is another: one event at a time this is faster.
+pub fn seems_one(table: &[u8], i: usize, s: Sought) -> bool
+    requires { ⌜ (5904 ≤ length (now table)) × (i ≤ 256) × (s .code ≤ 34) ⌝ }
+    ensures { λ r. ⌜ r ≡ seems (now (table .entry)) i s ⌝ }
+{
+    let own = words::word_at(table, reader::CODES + i);
+    if !code_seems(own, s) {
+        return false;
+    }
+    let low = words::word_at(table, reader::LOWS + i);
+    detail_seems(low, s)
+}
+
+// Whether the state has the bits that event i asks set, and lacks those that it asks clear.
+fn suits(table: &[u8], i: usize, s: Sought) -> bool
+    requires { ⌜ (whole (now table) ≡ true) × (i < eventCount (now table)) × (s .state < 8192) ⌝ }
+    ensures { λ r. ⌜ r ≡ suits (now (table .entry)) i s ⌝ }
+{
+    modifiers::state_meets(
+        reader::set_at(table, i),
+        reader::clear_at(table, i),
+        false,
+        s.state,
+    )
 }
 
 // Whether event i may begin a production for a stretch that begins with `one` and, if it is not short, goes on with `two`.
 fn begins(table: &[u8], one: Sought, short: bool, two: Sought, i: usize) -> bool
-    requires { ⌜ (5904 ≤ length (now table)) × (i < 256) × (one .code ≤ 34) × (two .code ≤ 34) ⌝ }
+    requires { ⌜ (whole (now table) ≡ true) × (i < eventCount (now table)) × (one .code ≤ 34) × (one .state < 8192) × (two .code ≤ 34) ⌝ }
     ensures { λ r. ⌜ r ≡ begins (now (table .entry)) one short two i ⌝ }
 {
-    let counted = 1 < words::word_at(table, crate::reader::COUNTS + i);
-    seems(table, i, one) & (short | counted | seems(table, i + 1, two))
+    let counted = 1 < words::word_at(table, reader::COUNTS + i);
+    seems(table, i, one) & suits(table, i, one) & (short | counted | seems(table, i + 1, two))
 }
 
-// Whether no event may. No early exit, so that the loop is compiled to vector instructions.
-pub fn none_begins(table: &[u8], one: Sought, short: bool, two: Sought) -> bool
-    requires { ⌜ (whole (now table) ≡ true) × (one .code ≤ 34) × (two .code ≤ 34) ⌝ }
-    ensures { λ r. ⌜ r ≡ every (cannotBegin (now (table .entry)) one short two) 0 (eventCount (now (table .entry))) ⌝ }
+// Whether no event may, for a stretch of one event. No early exit, so that the loop is compiled to vector instructions.
+pub fn none_alone(table: &[u8], one: Sought) -> bool
+    requires { ⌜ (whole (now table) ≡ true) × (one .code ≤ 34) × (one .state < 8192) ⌝ }
+    ensures { λ r. ⌜ r ≡ every (cannotBegin (now (table .entry)) one true one) 0 (eventCount (now (table .entry))) ⌝ }
 {
     let n = tables::read::event_count(table);
     let mut none = true;
     let mut i: usize = 0;
     while i < n {
-        none = none & !begins(table, one, short, two, i);
+        none = none & !begins(table, one, true, one, i);
+        i += 1;
+    }
+    none
+}
+
+// The same for a longer stretch.
+pub fn none_paired(table: &[u8], one: Sought, two: Sought) -> bool
+    requires { ⌜ (whole (now table) ≡ true) × (one .code ≤ 34) × (one .state < 8192) × (two .code ≤ 34) ⌝ }
+    ensures { λ r. ⌜ r ≡ every (cannotBegin (now (table .entry)) one false two) 0 (eventCount (now (table .entry))) ⌝ }
+{
+    let n = tables::read::event_count(table);
+    let mut none = true;
+    let mut i: usize = 0;
+    while i < n {
+        none = none & !begins(table, one, false, two, i);
         i += 1;
     }
     none

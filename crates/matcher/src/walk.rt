@@ -193,7 +193,7 @@ fn scan(
     let mut p: usize = 0;
     while p < n {
         let size = tables::read::production_events(table, p);
-        if filter::seems(table, at, one) {
+        if filter::seems_one(table, at, one) {
             match follow(table, map, limit, at, size, events, from, to) {
                 Followed::Whole => {
                     return Passed::Chosen(p);
@@ -216,25 +216,20 @@ fn scan(
     if seen { Passed::Prefix } else { Passed::No }
 }
 
-// What the second event of a stretch asks of the table's. Of a stretch of one event nothing is asked, so it may be anything.
-fn second_sought(map: &[u8], events: &[u8], from: usize, to: usize, one: Sought) -> Sought
-    requires { ⌜ ((length (mapNumbers (now map)) ≡ 496) × (length (now events) ≡ 200)) × ((from < to) × (to ≤ 25) × (one .code ≤ 34)) × ((j : ℕ) → j < to → EventRanges (getD (slotsOf (now events)) j zeroEvent)) ⌝ }
-    ensures { λ r. ⌜ (r .code ≤ 34) × (from + 1 < to → r ≡ soughtOf (mapNumbers (now (map .entry))) (getD (slotsOf (now (events .entry))) (from + 1) zeroEvent)) ⌝ }
-{
-    if from + 1 < to {
-        return filter::sought_of(map, state::event_at(events, from + 1));
-    }
-    one
-}
-
 // The same. Where the quick test finds no event of the table with which a production could begin, none is looked at.
 pub fn pass(table: &[u8], map: &[u8], limit: u32, events: &[u8], from: usize, to: usize) -> Passed
     requires { ⌜ Ready (now table) (mapNumbers (now map)) (now events) to × (from < to) ⌝ }
     ensures { λ r. ⌜ r ≡ passed (decode (now (table .entry))) (mapNumbers (now (map .entry))) limit (drop from (take to (slotsOf (now (events .entry))))) ⌝ }
 {
     let one = filter::sought_of(map, state::event_at(events, from));
-    let two = second_sought(map, events, from, to, one);
-    if filter::none_begins(table, one, from + 1 == to, two) {
+    if from + 1 == to {
+        if filter::none_alone(table, one) {
+            return Passed::No;
+        }
+        return scan(table, map, limit, events, from, to, one);
+    }
+    let two = filter::sought_of(map, state::event_at(events, from + 1));
+    if filter::none_paired(table, one, two) {
         return Passed::No;
     }
     scan(table, map, limit, events, from, to, one)

@@ -1,6 +1,8 @@
 -- `matcher::filter::seems` meets its contract.
-use native.Mathlib.Omega.{arith}
-use Rattle.matcher.specs.Filter.{seems, codeSeems, detailSeems}
+use Prim.Native.Nat.{ℕ}
+use mathlib.Core.Path.{ap, ap₂, _∙_}
+use mathlib.Core.Bool.{_&&_}
+use Rattle.matcher.specs.Filter.{codeSeems, detailSeems, seems}
 use borrow.Author.Needs.{needs}
 use Rattle.matcher.proofs.filter.seems.Statement.{statement}
 use Rattle.matcher.proofs.filter.seems.Tie as tie
@@ -17,15 +19,18 @@ add-word-at-2 c = search needs
 word-at-requires-2 : tie.Need-word-at-requires-2
 word-at-requires-2 c κs = search needs
 
-fold-requires : tie.Need-fold-requires
-fold-requires c κs = search needs
+code-seems-requires : tie.Need-code-seems-requires
+code-seems-requires c κs = c .before .before .before .pre .2
 
-add-result : tie.Need-add-result
-add-result c = omega (arith, c .before .before .before .before .pre .2)
+detail-seems-requires : tie.Need-detail-seems-requires
+detail-seems-requires c κs = search needs
 
 returns : tie.Need-returns
-unfolding seems codeSeems detailSeems
-returns c = rw (c .before .before .word-at .ensures, c .fold .ensures, c .before .word-at2 .ensures)
+unfolding seems
+returns c =
+    let a = c .before .before .before .before .before .args in
+    ap₂ _&&_ (c .before .code-seems .ensures ∙ ap (λ (w : ℕ). codeSeems w (a .s)) (c .before .before .before .word-at .ensures))
+    (c .detail-seems .ensures ∙ ap (λ (w : ℕ). detailSeems w (a .s)) (c .before .before .word-at2 .ensures))
 
 pub seems-spec : {M : Type 1} → statement M
 seems-spec =
@@ -35,6 +40,6 @@ seems-spec =
     word-at-requires
     add-word-at-2
     word-at-requires-2
-    fold-requires
-    add-result
+    code-seems-requires
+    detail-seems-requires
     returns)

@@ -1,9 +1,10 @@
 -- `matcher::walk::pass` meets its contract.
 use Prim.Native.Nat.{_+_, _≤_, _<_}
 use native.Mathlib.Omega.{arith}
-use mathlib.Core.Path.{_≡_, refl, sym, ap, _∙_}
+use mathlib.Core.Path.{_≡_, sym, ap, _∙_}
+use mathlib.Core.Bool.{true, false}
 use denote.Ref.{now}
-use lib.Dec.{eqb}
+use borrow.Author.Tests.{eq-eqb, ne-eqb}
 use lib.ListN.{getD}
 use Rattle.words.specs.Runs.{every}
 use Rattle.keyboard.specs.Maps.{mapNumbers}
@@ -13,11 +14,11 @@ use Rattle.matcher.specs.State.{zeroEvent, slotsOf}
 use Rattle.matcher.specs.Filter.{soughtOf, cannotBegin}
 use Rattle.matcher.proofs.TableFacts.{table-facts}
 use Rattle.matcher.proofs.SlotLaws.{length-slots, in-slot}
-use Rattle.matcher.proofs.FilterLaws.{sought-below, none-passes}
+use Rattle.matcher.proofs.FilterLaws.{sought-below, sought-state, none-passes}
 use Rattle.matcher.proofs.walk.pass.Statement.{statement}
 use Rattle.matcher.proofs.walk.pass.Tie as tie
 
--- the event that was read is that in slot `from`
+-- the event that was read first is that in slot `from`
 read-is : (c : tie.After-event-at) → c .event-at .result ≡ getD (slotsOf (now (c .before .before .before .before .args .events))) (c .before .before .before .before .args .from) zeroEvent
 read-is c =
     let m : c .before .before .before .before .args .from < 25 = omega (arith, c .before .before .before .before .pre .0 .room, c .before .before .before .before .pre .1) in
@@ -27,10 +28,28 @@ sought-is : (c : tie.After-sought-of)
     → c .sought-of .result ≡ soughtOf (mapNumbers (now (c .before .before .before .before .before .args .map))) (getD (slotsOf (now (c .before .before .before .before .before .args .events))) (c .before .before .before .before .before .args .from) zeroEvent)
 sought-is c = c .sought-of .ensures ∙ ap (soughtOf (mapNumbers (now (c .before .before .before .before .before .args .map)))) (read-is (c .before))
 
-below : (c : tie.After-sought-of) → c .sought-of .result .code ≤ 34
+below : (c : tie.After-sought-of) → (c .sought-of .result .code ≤ 34) × (c .sought-of .result .state < 8192)
 below c =
     let a = c .before .before .before .before .before .args in
-    sought-below (mapNumbers (now (a .map))) (getD (slotsOf (now (a .events))) (a .from) zeroEvent) (c .before .before .before .before .before .pre .0 .ranges (a .from) (c .before .before .before .before .before .pre .1)) (c .sought-of .result) (sought-is c)
+    let m = mapNumbers (now (a .map)) in
+    let x = getD (slotsOf (now (a .events))) (a .from) zeroEvent in
+    let r = c .before .before .before .before .before .pre .0 .ranges (a .from) (c .before .before .before .before .before .pre .1) in
+    (sought-below m x r (c .sought-of .result) (sought-is c), sought-state m x r (c .sought-of .result) (sought-is c))
+
+-- there is a next event
+next : (c : tie.Else1) → c .before .before .before .before .before .before .args .from + 1 < c .before .before .before .before .before .before .args .to
+next c =
+    let d : c .before .before .before .before .before .before .args .from + 1 ≡ c .before .before .before .before .before .before .args .to → ⊥ = c .if1 .left in
+    omega (arith, c .before .before .before .before .before .before .pre .1)
+
+next-is : (c : tie.After-event-at2) → c .event-at2 .result ≡ getD (slotsOf (now (c .before .before .before .before .before .before .before .args .events))) (c .before .before .before .before .before .before .before .args .from + 1) zeroEvent
+next-is c =
+    let m : c .before .before .before .before .before .before .before .args .from + 1 < 25 = omega (arith, c .before .before .before .before .before .before .before .pre .0 .room, next (c .before)) in
+    c .event-at2 .ensures ∙ in-slot (now (c .before .before .before .before .before .before .before .args .events)) (c .before .before .before .before .before .before .before .args .from + 1) m
+
+second-is : (c : tie.After-sought-of2)
+    → c .sought-of2 .result ≡ soughtOf (mapNumbers (now (c .before .before .before .before .before .before .before .before .args .map))) (getD (slotsOf (now (c .before .before .before .before .before .before .before .before .args .events))) (c .before .before .before .before .before .before .before .before .args .from + 1) zeroEvent)
+second-is c = c .sought-of2 .ensures ∙ ap (soughtOf (mapNumbers (now (c .before .before .before .before .before .before .before .before .args .map)))) (next-is (c .before))
 
 event-at-requires : tie.Need-event-at-requires
 event-at-requires c κs = omega (arith, c .before .before .before .pre .0 .room, c .before .before .before .pre .0 .long, c .before .before .before .pre .1)
@@ -38,28 +57,22 @@ event-at-requires c κs = omega (arith, c .before .before .before .pre .0 .room,
 sought-of-requires : tie.Need-sought-of-requires
 sought-of-requires c κs = (c .before .before .before .before .pre .0 .mapped, rw (read-is c) (c .before .before .before .before .pre .0 .ranges (c .before .before .before .before .args .from) (c .before .before .before .before .pre .1)))
 
-second-sought-requires : tie.Need-second-sought-requires
-second-sought-requires c κs =
-    let p = c .before .before .before .before .before .pre in
-    ((p .0 .mapped, p .0 .long), (p .1, p .0 .room, below c), p .0 .ranges)
+add-if1 : tie.Need-add-if1
+add-if1 c = omega (arith, c .before .before .before .before .before .pre .0 .room, c .before .before .before .before .before .pre .1)
 
-add-none-begins : tie.Need-add-none-begins
-add-none-begins c = omega (arith, c .before .before .before .before .before .before .pre .0 .room, c .before .before .before .before .before .before .pre .1)
-
-none-begins-requires : tie.Need-none-begins-requires
-none-begins-requires c κs = (c .before .before .before .before .before .before .pre .0 .isWhole, below (c .before), c .second-sought .ensures .0)
+none-alone-requires : tie.Need-none-alone-requires
+none-alone-requires c κs = (c .before .before .before .before .before .before .pre .0 .isWhole, below (c .before) .0, below (c .before) .1)
 
 returns : tie.Need-returns
 returns c =
     let a = c .before .before .before .before .before .before .before .before .args in
     let p = c .before .before .before .before .before .before .before .before .pre in
     let l = now (a .table) in
-    let m = mapNumbers (now (a .map)) in
-    let xs = slotsOf (now (a .events)) in
+    let e : a .from + 1 ≡ a .to = c .before .before .if1 .taken in
     sym
-    (none-passes m (a .limit) l (table-facts l (p .0 .isWhole)) (λ k. omega (arith, c .before .before .before .before .before .before .before .shared-slice-known .given k)) xs (a .from) (a .to) (length-slots (now (a .events))) (p .0 .room) (p .1) (p .0 .ranges)
-    (eqb (a .from + 1) (a .to)) (c .before .before .second-sought .result) refl (c .before .before .second-sought .ensures .1)
-    (ap (λ (s : Sought). every (cannotBegin l s (eqb (a .from + 1) (a .to)) (c .before .before .second-sought .result)) 0 (eventCount l)) (sym (sought-is (c .before .before .before))) ∙ sym (c .before .none-begins .ensures) ∙ c .if1 .taken))
+    (none-passes (mapNumbers (now (a .map))) (a .limit) l (table-facts l (p .0 .isWhole)) (λ k. omega (arith, c .before .before .before .before .before .before .before .shared-slice-known .given k)) (slotsOf (now (a .events))) (a .from) (a .to) (length-slots (now (a .events))) (p .0 .room) (p .1) (p .0 .ranges)
+    true (c .before .before .before .sought-of .result) (sym (eq-eqb (a .from + 1) (a .to) e)) (λ h. absurd (omega arith))
+    (ap (λ (s : Sought). every (cannotBegin l s true (c .before .before .before .sought-of .result)) 0 (eventCount l)) (sym (sought-is (c .before .before .before))) ∙ sym (c .before .none-alone .ensures) ∙ c .if2 .taken))
 
 scan-requires : tie.Need-scan-requires
 scan-requires c κs = (c .before .before .before .before .before .before .before .before .pre .0, c .before .before .before .before .before .before .before .before .pre .1, sought-is (c .before .before .before))
@@ -67,15 +80,51 @@ scan-requires c κs = (c .before .before .before .before .before .before .before
 returns-2 : tie.Need-returns-2
 returns-2 c = c .scan .ensures
 
+add-event-at : tie.Need-add-event-at
+add-event-at c = omega (arith, c .before .before .before .before .before .before .pre .0 .room, c .before .before .before .before .before .before .pre .1)
+
+event-at-requires-2 : tie.Need-event-at-requires-2
+event-at-requires-2 c κs = omega (arith, c .before .before .before .before .before .before .pre .0 .room, c .before .before .before .before .before .before .pre .0 .long, next c)
+
+sought-of-requires-2 : tie.Need-sought-of-requires-2
+sought-of-requires-2 c κs = (c .before .before .before .before .before .before .before .pre .0 .mapped, rw (next-is c) (c .before .before .before .before .before .before .before .pre .0 .ranges (c .before .before .before .before .before .before .before .args .from + 1) (next (c .before))))
+
+none-paired-requires : tie.Need-none-paired-requires
+none-paired-requires c κs =
+    let a = c .before .before .before .before .before .before .before .before .args in
+    (c .before .before .before .before .before .before .before .before .pre .0 .isWhole, below (c .before .before .before) .0, below (c .before .before .before) .1, sought-below (mapNumbers (now (a .map))) (getD (slotsOf (now (a .events))) (a .from + 1) zeroEvent) (c .before .before .before .before .before .before .before .before .pre .0 .ranges (a .from + 1) (next (c .before .before))) (c .sought-of2 .result) (second-is c))
+
+returns-3 : tie.Need-returns-3
+returns-3 c =
+    let a = c .before .before .before .before .before .before .before .before .before .before .args in
+    let p = c .before .before .before .before .before .before .before .before .before .before .pre in
+    let l = now (a .table) in
+    sym
+    (none-passes (mapNumbers (now (a .map))) (a .limit) l (table-facts l (p .0 .isWhole)) (λ k. omega (arith, c .before .before .before .before .before .before .before .before .before .shared-slice-known .given k)) (slotsOf (now (a .events))) (a .from) (a .to) (length-slots (now (a .events))) (p .0 .room) (p .1) (p .0 .ranges)
+    false (c .before .before .sought-of2 .result) (sym (ne-eqb (a .from + 1) (a .to) (c .before .before .before .before .if1 .left))) (λ h. second-is (c .before .before))
+    (ap (λ (s : Sought). every (cannotBegin l s false (c .before .before .sought-of2 .result)) 0 (eventCount l)) (sym (sought-is (c .before .before .before .before .before))) ∙ sym (c .before .none-paired .ensures) ∙ c .if3 .taken))
+
+scan-requires-2 : tie.Need-scan-requires-2
+scan-requires-2 c κs = (c .before .before .before .before .before .before .before .before .before .before .pre .0, c .before .before .before .before .before .before .before .before .before .before .pre .1, sought-is (c .before .before .before .before .before))
+
+returns-4 : tie.Need-returns-4
+returns-4 c = c .scan2 .ensures
+
 pub pass-spec : {M : Type 1} → statement M
 pass-spec =
     tie.close
     (tie.spec
     event-at-requires
     sought-of-requires
-    second-sought-requires
-    add-none-begins
-    none-begins-requires
+    add-if1
+    none-alone-requires
     returns
     scan-requires
-    returns-2)
+    returns-2
+    add-event-at
+    event-at-requires-2
+    sought-of-requires-2
+    none-paired-requires
+    returns-3
+    scan-requires-2
+    returns-4)

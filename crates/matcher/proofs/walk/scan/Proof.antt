@@ -58,7 +58,7 @@ another c =
     let g = place (c .before .before) in
     seems-not (mapNumbers (now (a .map))) (a .limit) l (table-facts l (p .0 .isWhole)) (λ k. omega (arith, c .before .before .before .before .before .before .before .before .shared-slice-known .given k)) (c .before .before .before .before .loop .at) (c .before .before .production-events .result) (slotsOf (now (a .events))) (a .from) (a .to)
     (length-slots (now (a .events))) (p .0 .room) (p .1) (g .some) (g .within) (p .0 .ranges)
-    (ap (seems l (c .before .before .before .before .loop .at)) (sym (p .2)) ∙ sym (c .before .seems .ensures) ∙ c .if1 .left)
+    (ap (seems l (c .before .before .before .before .loop .at)) (sym (p .2)) ∙ sym (c .before .seems-one .ensures) ∙ c .if1 .left)
 
 production-count-requires : tie.Need-production-count-requires Inv-loop μ-loop
 production-count-requires c κs = table-facts _ (c .before .before .before .pre .0 .isWhole) .long
@@ -74,8 +74,8 @@ production-events-requires c κs =
     let h : c .before .loop .p < 64 = omega (arith, f .productions, c .before .before .production-count .ensures) in
     (f .long, h)
 
-seems-requires : tie.Need-seems-requires Inv-loop μ-loop
-seems-requires c κs =
+seems-one-requires : tie.Need-seems-one-requires Inv-loop μ-loop
+seems-one-requires c κs =
     let g = place c in
     let p = c .before .before .before .before .before .before .before .pre in
     (table-facts _ (p .0 .isWhole) .long, omega arith, sought-below (mapNumbers (now (c .before .before .before .before .before .before .before .args .map))) (getD (slotsOf (now (c .before .before .before .before .before .before .before .args .events))) (c .before .before .before .before .before .before .before .args .from) zeroEvent) (p .0 .ranges (c .before .before .before .before .before .before .before .args .from) (p .1)) (c .before .before .before .before .before .before .before .args .one) (p .2))
@@ -192,7 +192,7 @@ scan-spec =
     production-count-requires
     loop-holds
     production-events-requires
-    seems-requires
+    seems-one-requires
     follow-requires
     enum-told
     returns

@@ -1,23 +1,23 @@
--- `matcher::filter::none_begins` meets its contract.
+-- `matcher::filter::none_paired` meets its contract.
 use Prim.Native.Nat.{_≤_, _<_, _-_}
 use native.Mathlib.Omega.{arith}
 use native.Mathlib.Nat.{zero-add}
 use mathlib.Core.Path.{_≡_, refl, ap, ap₂, _∙_}
-use mathlib.Core.Bool.{not, _&&_}
+use mathlib.Core.Bool.{false, not, _&&_}
 use denote.Ref.{now}
 use Rattle.words.specs.Runs.{every}
 use Rattle.words.proofs.RunLaws.{every-more}
 use Rattle.tables.specs.Reading.{eventCount}
 use Rattle.matcher.specs.Filter.{cannotBegin}
 use Rattle.matcher.proofs.TableFacts.{table-facts}
-use Rattle.matcher.proofs.filter.none_begins.Statement.{statement}
-use Rattle.matcher.proofs.filter.none_begins.Tie as tie
+use Rattle.matcher.proofs.filter.none_paired.Statement.{statement}
+use Rattle.matcher.proofs.filter.none_paired.Tie as tie
 
 abbrev Inv-loop : tie.InvT-loop
-Inv-loop table one short two n none₀ i₀ none i = (i ≤ n) × (none ≡ every (cannotBegin table one short two) 0 i)
+Inv-loop table one two n none₀ i₀ none i = (i ≤ n) × (none ≡ every (cannotBegin table one false two) 0 i)
 
 abbrev μ-loop : tie.MeasureT-loop
-μ-loop table one short two n none₀ i₀ none i = n - i
+μ-loop table one two n none₀ i₀ none i = n - i
 
 event-count-requires : tie.Need-event-count-requires Inv-loop μ-loop
 event-count-requires c κs = table-facts _ (c .before .pre .0) .long
@@ -29,9 +29,8 @@ loop-holds c = (omega arith, refl)
 begins-requires : tie.Need-begins-requires Inv-loop μ-loop
 begins-requires c κs =
     let p = c .before .before .before .before .pre in
-    let f = table-facts _ (p .0) in
-    let n : c .before .loop .i < 256 = omega (arith, f .events, c .before .before .event-count .ensures) in
-    (f .long, n, p .1, p .2)
+    let h : c .before .loop .i < eventCount (now (c .before .before .before .before .args .table)) = omega (arith, c .before .before .event-count .ensures) in
+    (p .0, h, p .1, p .2, p .3)
 
 add-i : tie.Need-add-i Inv-loop μ-loop
 add-i c = omega arith
@@ -49,10 +48,10 @@ returns : tie.Need-returns Inv-loop μ-loop
 returns c =
     let a = c .before .before .before .before .args in
     let q : c .before .loop .i ≡ eventCount (now (a .table)) = omega (arith, c .before .before .event-count .ensures) in
-    c .before .loop .inv .1 ∙ ap (every (cannotBegin (now (a .table)) (a .one) (a .short) (a .two)) 0) q
+    c .before .loop .inv .1 ∙ ap (every (cannotBegin (now (a .table)) (a .one) false (a .two)) 0) q
 
-pub none-begins-spec : {M : Type 1} → statement M
-none-begins-spec =
+pub none-paired-spec : {M : Type 1} → statement M
+none-paired-spec =
     tie.close
     (tie.spec
     Inv-loop
