@@ -216,12 +216,16 @@ fn scan(
     if seen { Passed::Prefix } else { Passed::No }
 }
 
-// The same. Where the quick test finds no event of the table with which a production could begin, none is looked at.
+// The same. Most productions are on keys, and most keys have none: where the quick test finds no event of the table with
+// which a production could begin for a key event, no production is looked at.
 pub fn pass(table: &[u8], map: &[u8], limit: u32, events: &[u8], from: usize, to: usize) -> Passed
     requires { ⌜ Ready (now table) (mapNumbers (now map)) (now events) to × (from < to) ⌝ }
     ensures { λ r. ⌜ r ≡ passed (decode (now (table .entry))) (mapNumbers (now (map .entry))) limit (drop from (take to (slotsOf (now (events .entry))))) ⌝ }
 {
     let one = filter::sought_of(map, state::event_at(events, from));
+    if 3 < one.code {
+        return scan(table, map, limit, events, from, to, one);
+    }
     if from + 1 == to {
         if filter::none_alone(table, one) {
             return Passed::No;
