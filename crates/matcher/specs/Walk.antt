@@ -1,5 +1,5 @@
 -- How a stretch of events is walked along the elements of a production, and what one pass over the productions finds.
--- proofs/WalkLaws shows that this comes to model's `readsAsPrefix` and `isWholeSequence`.
+-- proofs/PassLaws shows that this comes to model's `readsAsPrefix` and `isWholeSequence`.
 use Prim.Native.Nat.{ℕ, suc, _+_, _-_, _*_, _%_, _≤_, _<_}
 use mathlib.Core.Path.{_≡_}
 use mathlib.Core.Bool.{Bool, true, false, cond, not, _&&_, _||_}
