@@ -120,6 +120,10 @@ parametersOk l i =
     (total (wordAt l) callParametersAt i)
     (wordAt l (callParametersAt + i))
 
+-- the first p of n parameters in a text of one length, and the others in a text of another
+unfoldable pub inTurn : List ℕ → (before after p n : ℕ) → Bool
+inTurn l before after p n = every (parameterOk l before) 0 p && every (parameterOk l after) p (n - p)
+
 -- ---- Productions
 
 -- how many events an event stands for

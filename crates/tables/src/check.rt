@@ -10,7 +10,7 @@ ghost use Rattle.words.specs.Words.{wordAt};
 ghost use Rattle.words.specs.Runs.{every, total};
 ghost use Rattle.tables.specs.Layout.{productionEventsAt, productionCallsAt, countsAt, callParametersAt};
 ghost use Rattle.tables.specs.Whole.{whole};
-ghost use Rattle.tables.specs.Checks.{textWordsOk, countWordsOk, headerOk, sumsOk, productionsRest, testsRest, detailsRest, callsRest, parametersRest, unusedOk, eventWordsOk, eventOk, textOf, callWordsOk, callOk, parameterOk, parametersOk, sizeOf, sizeAt, productionOk, plainOk, mostEvents, sequencesOk, lowAt, entriesOk};
+ghost use Rattle.tables.specs.Checks.{textWordsOk, countWordsOk, headerOk, sumsOk, productionsRest, testsRest, detailsRest, callsRest, parametersRest, unusedOk, eventWordsOk, eventOk, textOf, callWordsOk, callOk, parameterOk, parametersOk, inTurn, sizeOf, sizeAt, productionOk, plainOk, mostEvents, sequencesOk, lowAt, entriesOk};
 
 // ---- The header
 
@@ -267,6 +267,59 @@ fn parameters_ok(l: &[u8], n: usize) -> bool
     ok
 }
 
+// The sum of the lower bytes of n words from word k on.
+fn low_sum(l: &[u8], k: usize, n: usize) -> u16
+    requires { ⌜ (2 * (k + n) ≤ length (now l)) × (n ≤ 256) ⌝ }
+    ensures { λ r. ⌜ r ≡ total (lowAt (now (l .entry))) k n ⌝ }
+{
+    let mut s: u16 = 0;
+    let mut i: usize = 0;
+    while i < n {
+        s += words::word_at(l, k + i) % 256;
+        i += 1;
+    }
+    s
+}
+
+// The parameters of k calls in a text of one length, and the others in a text of another.
+fn texts_in_turn(l: &[u8], before: u16, after: u16, k: usize, parameters: usize) -> bool
+    requires { ⌜ ((5904 ≤ length (now l)) × (k ≤ 128)) × ((total (lowAt (now l)) callParametersAt k ≤ parameters) × (parameters ≤ 256)) ⌝ }
+    ensures { λ r. ⌜ r ≡ inTurn (now (l .entry)) before after (total (lowAt (now (l .entry))) callParametersAt k) parameters ⌝ }
+{
+    let p = low_sum(l, 2312, k) as usize;
+    parameters_within(l, before, 0, p) & parameters_within(l, after, p, parameters - p)
+}
+
+// The parameters of n calls in a merged table. Such a table has the calls of one text first and then those of the other:
+// the sum of the marks is how many calls are of the second text, and the sum over as many first ones tells whether they
+// are these. Where the texts take turns more often, it goes call by call.
+fn merged_ok(l: &[u8], n: usize, parameters: usize) -> bool
+    requires { ⌜ ((5904 ≤ length (now l)) × (n ≤ 128)) × ((total (wordAt (now l)) callParametersAt n ≡ parameters) × (parameters ≤ 256) × (every (callOk (now l)) 0 n ≡ true) × (wordAt (now l) 1 ≤ 1)) ⌝ }
+    ensures { λ r. ⌜ r ≡ every (parametersOk (now (l .entry))) 0 n ⌝ }
+{
+    let first = words::word_at(l, 2);
+    let second = words::word_at(l, 3);
+    let seconds = low_sum(l, 1928, n) as usize;
+    if low_sum(l, 1928, seconds) as usize == seconds {
+        return texts_in_turn(l, second, first, seconds, parameters);
+    }
+    if low_sum(l, 1928, n - seconds) == 0 {
+        return texts_in_turn(l, first, second, n - seconds, parameters);
+    }
+    parameters_ok(l, n)
+}
+
+// The parameters of n calls. Only a merged table has calls of two texts; in any other one loop goes over all parameters.
+fn spans_ok(l: &[u8], n: usize, parameters: usize) -> bool
+    requires { ⌜ ((5904 ≤ length (now l)) × (n ≤ 128)) × ((total (wordAt (now l)) callParametersAt n ≡ parameters) × (parameters ≤ 256) × (every (callOk (now l)) 0 n ≡ true) × (wordAt (now l) 1 ≤ 1)) ⌝ }
+    ensures { λ r. ⌜ r ≡ every (parametersOk (now (l .entry))) 0 n ⌝ }
+{
+    if words::word_at(l, 1) == 0 {
+        return parameters_within(l, words::word_at(l, 2), 0, parameters);
+    }
+    merged_ok(l, n, parameters)
+}
+
 // ---- Productions
 
 // How many events an event stands for.
@@ -312,17 +365,6 @@ fn productions_ok(l: &[u8], n: usize) -> bool
         p += 1;
     }
     ok
-}
-
-// The parameters of n calls. Only a merged table has calls of two texts; in any other one loop goes over all parameters.
-fn spans_ok(l: &[u8], n: usize, parameters: usize) -> bool
-    requires { ⌜ ((5904 ≤ length (now l)) × (n ≤ 128)) × ((total (wordAt (now l)) callParametersAt n ≡ parameters) × (parameters ≤ 256) × (every (callOk (now l)) 0 n ≡ true)) ⌝ }
-    ensures { λ r. ⌜ r ≡ every (parametersOk (now (l .entry))) 0 n ⌝ }
-{
-    if words::word_at(l, 1) == 0 {
-        return parameters_within(l, words::word_at(l, 2), 0, parameters);
-    }
-    parameters_ok(l, n)
 }
 
 // What the loop over productions finds: whether each has 1 to `most` events and at most 8 calls, and how many all have.
@@ -394,7 +436,7 @@ fn sequences_ok(l: &[u8], n: usize, events: usize, calls: usize, counts: usize) 
 
 // The entries, and that their numbers add up to those of the header.
 fn entries_ok(l: &[u8]) -> bool
-    requires { ⌜ (5904 ≤ length (now l)) × ((wordAt (now l) 4 ≤ 64) × (wordAt (now l) 5 ≤ 256) × (wordAt (now l) 6 ≤ 128) × (wordAt (now l) 7 ≤ 256)) ⌝ }
+    requires { ⌜ ((5904 ≤ length (now l)) × (wordAt (now l) 1 ≤ 1)) × ((wordAt (now l) 4 ≤ 64) × (wordAt (now l) 5 ≤ 256) × (wordAt (now l) 6 ≤ 128) × (wordAt (now l) 7 ≤ 256)) ⌝ }
     ensures { λ r. ⌜ r ≡ (sumsOk (now (l .entry)) && entriesOk (now (l .entry))) ⌝ }
 {
     let productions = words::word_at(l, 4) as usize;

@@ -115,6 +115,33 @@ all-ones f s n i e h q =
         let z : s + (i + 1) + k ≡ s + ((i + 1) + k) = omega arith in
         rw z (h ((i + 1) + k) (omega arith))
 
+-- numbers that sum to 0 are all 0
+pub all-zeros : (f : ℕ → ℕ) (s n i : ℕ) → total f s n ≡ 0 → i < n → f (s + i) ≡ 0
+all-zeros f s n i e h = omega (arith, total-part f s i n h, e)
+
+-- numbers of at most 1
+module _ (f : ℕ → ℕ) (s : ℕ) where
+  pub total-le : (n : ℕ) → ((i : ℕ) → i < n → f (s + i) ≤ 1) → total f s n ≤ n
+  unfolding total
+  total-le zero h = omega arith
+  total-le (suc n) h = let a = total-le n (λ i q. h i (omega arith)) in let b = h n (omega arith) in omega arith
+
+-- that sum to as many as there are, are all 1
+pub all-full : (f : ℕ → ℕ) (s n i : ℕ) → total f s n ≡ n → ((k : ℕ) → k < n → f (s + k) ≤ 1) → i < n → f (s + i) ≡ 1
+all-full f s n i e h q =
+    let split : n ≡ (i + 1) + (n - (i + 1)) = omega arith in
+    let t : total f s n ≡ total f s (i + 1) + total f (s + (i + 1)) (n - (i + 1)) = ap (total f s) split ∙ total-add f s (i + 1) (n - (i + 1)) in
+    let a = total-more f s i in
+    let b = total-le f s i (λ k p. h k (omega arith)) in
+    let c = total-le f (s + (i + 1)) (n - (i + 1)) (λ k p. shifted k p) in
+    let d = h i q in
+    omega (arith, t, a, b, c, d, e)
+  where
+    shifted : (k : ℕ) → k < n - (i + 1) → f (s + (i + 1) + k) ≤ 1
+    shifted k p =
+        let z : s + (i + 1) + k ≡ s + ((i + 1) + k) = omega arith in
+        rw z (h ((i + 1) + k) (omega arith))
+
 -- the sum of ones
 pub total-ones : (f : ℕ → ℕ) (s n : ℕ) → ((i : ℕ) → i < n → f (s + i) ≡ 1) → total f s n ≡ n
 unfolding total

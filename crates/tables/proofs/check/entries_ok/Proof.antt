@@ -66,7 +66,7 @@ spans-ok-requires : tie.Need-spans-ok-requires
 spans-ok-requires c κs =
     let ca : every (callOk (c .before .before .before .before .before .before .before .before .before .before .before .before .before .args .l .now)) 0 (c .before .before .before .before .before .before .before .before .before .word-at3 .result) ≡ true = sym (c .before .before .before .before .calls-tally .ensures .0) ∙ not-false (c .before .before .before .before .calls-tally .result .ok) (c .before .before .if2 .left) in
     let t : total (wordAt (c .before .before .before .before .before .before .before .before .before .before .before .before .before .args .l .now)) callParametersAt (c .before .before .before .before .before .before .before .before .before .word-at3 .result) ≡ c .before .before .before .before .before .before .before .before .word-at4 .result = sym (low-parameters (c .before .before .before .before .before .before .before .before .before .before .before .before .before .args .l .now) (c .before .before .before .before .before .before .before .before .before .word-at3 .result) ca) ∙ sym (c .before .before .before .before .calls-tally .ensures .1) ∙ c .if3 .left in
-    ((search needs, search needs), (t, search needs, ca))
+    ((search needs, search needs), (t, search needs, ca, search needs))
 
 cast-sequences-ok : tie.Need-cast-sequences-ok
 cast-sequences-ok c = search needs

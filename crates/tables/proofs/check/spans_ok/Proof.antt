@@ -21,8 +21,8 @@ returns c =
     let z : wordAt (c .before .before .before .before .before .args .l .now) 1 ≡ 0 = sym (c .before .before .before .word-at .ensures) ∙ c .before .before .if1 .taken in
     c .parameters-within .ensures ∙ rw (c .before .word-at2 .ensures, ← c .before .before .before .before .before .pre .1 .0) (sym (plain-parameters (c .before .before .before .before .before .args .l .now) (c .before .before .before .before .before .args .n) z (c .before .before .before .before .before .pre .1 .2)))
 
-parameters-ok-requires : tie.Need-parameters-ok-requires
-parameters-ok-requires c κs = search needs
+merged-ok-requires : tie.Need-merged-ok-requires
+merged-ok-requires c κs = search needs
 
 returns-2 : tie.Need-returns-2
 returns-2 c = search needs
@@ -35,5 +35,5 @@ spans-ok-spec =
     word-at-requires-2
     parameters-within-requires
     returns
-    parameters-ok-requires
+    merged-ok-requires
     returns-2)

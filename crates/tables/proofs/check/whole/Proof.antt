@@ -26,7 +26,7 @@ unused-ok-requires c κs =
 entries-ok-requires : tie.Need-entries-ok-requires
 entries-ok-requires c κs =
     let h : HeaderFacts (c .before .before .before .before .before .args .l .now) = header-facts (c .before .before .before .before .before .args .l .now) (sym (c .before .before .header-ok .ensures) ∙ not-false (c .before .before .header-ok .result) (c .before .if2 .left)) in
-    (search needs, (h .productions, h .events, h .calls, h .parameters))
+    ((search needs, h .merged), (h .productions, h .events, h .calls, h .parameters))
 
 returns-3 : tie.Need-returns-3
 returns-3 c =
