@@ -7,13 +7,13 @@ use mathlib.Core.Path.{_≡_, refl, sym, ap, _∙_}
 use mathlib.Core.List.{List, [], _∷_}
 use mathlib.Core.Bool.{Bool, true, false, cond, _&&_, _||_, and-true}
 use lib.Dec.{leb, eqb}
-use borrow.Author.Tests.{le-leb, leb-true, leb-false, eqb-true}
+use borrow.Author.Tests.{le-leb, leb-true, leb-false, ltb-true, eqb-true}
 use Rattle.words.specs.Words.{wordAt}
 use Rattle.words.specs.Runs.{every, total}
 use Rattle.words.proofs.Bools.{chain-parts, chain-all}
-use Rattle.words.proofs.RunLaws.{every-at, every-all, every-add, total-add, total-more, total-same, total-part, total-le, all-zeros, all-full}
+use Rattle.words.proofs.RunLaws.{every-at, every-all, every-add, total-add, total-more, total-same, total-part, total-bound, total-le, all-zeros, all-full}
 use Rattle.tables.specs.Layout.{productionEventsAt, productionCallsAt, codesAt, countsAt, setsAt, clearsAt, flagsAt, lowsAt, highsAt, marksAt, callParametersAt}
-use Rattle.tables.specs.Checks.{eventOk, textOf, callOk, parameterOk, parametersOk, inTurn, sizeOf, sizeAt, productionOk, plainOk, mostEvents, sequencesOk, lowAt}
+use Rattle.tables.specs.Checks.{eventOk, textOf, callOk, parameterOk, parametersOk, inTurn, sizeOf, sizeAt, productionOk, plainOk, leastEvents, mostEvents, sequencesOk, fewAt, lowAt}
 use Rattle.tables.proofs.EventWords.{EventFacts, event-facts}
 use Rattle.tables.proofs.CheckFacts.{CallWordFacts, call-word-facts}
 
@@ -153,6 +153,15 @@ size-most c n h = go (leb n 1) refl (eqb c 3 || eqb c 5) refl
     go false p true q = rw (p, q) (omega arith)
     go false p false q = rw (p, q) (omega arith)
 
+size-few : (c n : ℕ) → n < 4 → sizeOf c n ≤ 6
+unfolding sizeOf
+size-few c n h = go (leb n 1) refl (eqb c 3 || eqb c 5) refl
+  where
+    go : (a : Bool) → leb n 1 ≡ a → (b : Bool) → (eqb c 3 || eqb c 5) ≡ b → sizeOf c n ≤ 6
+    go true p b q = rw p (omega arith)
+    go false p true q = rw (p, q) (omega arith)
+    go false p false q = rw (p, q) (omega arith)
+
 -- what an event's count has above 1
 abbrev spareAt : List ℕ → ℕ → ℕ
 spareAt l i = wordAt l (countsAt + i) - 1
@@ -204,21 +213,40 @@ module _ (l : List ℕ) (n : ℕ) (ok : every (eventOk l) 0 n ≡ true) where
   pub sizes-extra : (from m : ℕ) → from + m ≤ n → total (sizeAt l) from m ≤ m + 3 * (total (wordAt l) countsAt n - n)
   sizes-extra from m h = omega (arith, sizes-more from m h, spare-part from m h, spare-counts)
 
-  one-size : (from : ℕ) → from < n → total (sizeAt l) from 1 ≤ 18
-  unfolding total sizeAt
-  one-size from h =
-      let e : from + 0 ≡ from = omega arith in
-      rw e (omega (arith, size-most (wordAt l (codesAt + from)) (wordAt l (countsAt + from)) (event-at from h .countHigh)))
+  size-any : (from m i : ℕ) → from + m ≤ n → i < m → sizeAt l (from + i) ≤ 18
+  unfolding sizeAt
+  size-any from m i h b =
+      size-most (wordAt l (codesAt + (from + i))) (wordAt l (countsAt + (from + i))) (event-at (from + i) (omega arith) .countHigh)
+
+  few-at : (i : ℕ) → every (fewAt l) 0 n ≡ true → i < n → wordAt l (countsAt + i) < 4
+  unfolding fewAt
+  few-at i e h = ltb-true (wordAt l (countsAt + i)) 4 (rw zero-add at (every-at (fewAt l) 0 n i e h))
+
+  size-low : (from m i : ℕ) → every (fewAt l) 0 n ≡ true → from + m ≤ n → i < m → sizeAt l (from + i) ≤ 6
+  unfolding sizeAt
+  size-low from m i e h b =
+      size-few (wordAt l (codesAt + (from + i))) (wordAt l (countsAt + (from + i))) (few-at (from + i) e (omega arith))
+
+  -- so many events stand for at most 24, whichever they are
+  sizes-least : (few : Bool) → few ≡ every (fewAt l) 0 n → (from m : ℕ) → from + m ≤ n → m ≤ leastEvents few → total (sizeAt l) from m ≤ 24
+  unfolding leastEvents
+  sizes-least true e from m h b = omega (arith, total-bound (sizeAt l) from m 6 (λ i q. size-low from m i (sym e) h q))
+  sizes-least false e from m h b = omega (arith, total-bound (sizeAt l) from m 18 (λ i q. size-any from m i h q))
 
 -- ---- Productions
 
-most-below : (e : ℕ) → mostEvents e ≤ 24
+pub least-below : (few : Bool) → leastEvents few ≤ 24
+unfolding leastEvents
+least-below true = omega arith
+least-below false = omega arith
+
+most-below : (e k : ℕ) → k ≤ 24 → mostEvents e k ≤ 24
 unfolding mostEvents
-most-below e = go (leb e 23) refl
+most-below e k h = go (leb (e + k) 24) refl
   where
-    go : (t : Bool) → leb e 23 ≡ t → mostEvents e ≤ 24
+    go : (t : Bool) → leb (e + k) 24 ≡ t → mostEvents e k ≤ 24
     go true q = rw q (omega arith)
-    go false q = rw q (omega arith)
+    go false q = rw q h
 
 record PlainFacts (l : List ℕ) (most p : ℕ) : Type 0 where
   events : 1 ≤ wordAt l (productionEventsAt + p)
@@ -236,35 +264,37 @@ plain-facts l most p e =
     }
 
 module _ (l : List ℕ) (n : ℕ) (ok : every (eventOk l) 0 n ≡ true) (extra : ℕ) (all : extra ≡ 3 * (total (wordAt l) countsAt n - n)) where
-  sizes-within : (from m : ℕ) → from + m ≤ n → 1 ≤ m → m ≤ mostEvents extra → total (sizeAt l) from m ≤ 24
+  -- the whole table within its limit, by the counts alone
+  pub sizes-table : n + extra ≤ 256 → leb (total (sizeAt l) 0 n) 256 ≡ true
+  sizes-table b = le-leb (total (sizeAt l) 0 n) 256 (omega (arith, sizes-extra l n ok 0 n (omega arith)))
+
+module _ (l : List ℕ) (n : ℕ) (ok : every (eventOk l) 0 n ≡ true) (extra : ℕ) (all : extra ≡ 3 * (total (wordAt l) countsAt n - n)) (few : Bool) (low : few ≡ every (fewAt l) 0 n) where
+  sizes-within : (from m : ℕ) → from + m ≤ n → m ≤ mostEvents extra (leastEvents few) → total (sizeAt l) from m ≤ 24
   unfolding mostEvents
-  sizes-within from m h a b = go (leb extra 23) refl
+  sizes-within from m h b = go (leb (extra + leastEvents few) 24) refl
     where
-      go : (t : Bool) → leb extra 23 ≡ t → total (sizeAt l) from m ≤ 24
+      go : (t : Bool) → leb (extra + leastEvents few) 24 ≡ t → total (sizeAt l) from m ≤ 24
       go true q =
           let c : m ≤ 24 - extra = rw q at b in
-          let d = leb-true extra 23 q in
+          let d = leb-true (extra + leastEvents few) 24 q in
           omega (arith, sizes-extra l n ok from m h)
-      go false q =
-          let c : m ≤ 1 = rw q at b in
-          let e : m ≡ 1 = omega arith in
-          rw e (omega (arith, one-size l n ok from (omega arith)))
+      go false q = sizes-least l n ok few low from m h (rw q at b)
 
-  module _ (k : ℕ) (plain : every (plainOk l (mostEvents extra)) 0 k ≡ true) where
-    plain-at : (p : ℕ) → p < k → PlainFacts l (mostEvents extra) p
-    plain-at p h = plain-facts l (mostEvents extra) p (rw zero-add at (every-at (plainOk l (mostEvents extra)) 0 k p plain h))
+  module _ (k : ℕ) (plain : every (plainOk l (mostEvents extra (leastEvents few))) 0 k ≡ true) where
+    plain-at : (p : ℕ) → p < k → PlainFacts l (mostEvents extra (leastEvents few)) p
+    plain-at p h = plain-facts l (mostEvents extra (leastEvents few)) p (rw zero-add at (every-at (plainOk l (mostEvents extra (leastEvents few))) 0 k p plain h))
 
     production-within : (p : ℕ) → total (wordAt l) productionEventsAt k ≡ n → p < k → productionOk l p ≡ true
     unfolding productionOk
     production-within p e h =
-        let f : PlainFacts l (mostEvents extra) p = plain-at p h in
+        let f : PlainFacts l (mostEvents extra (leastEvents few)) p = plain-at p h in
         chain-all (leb 1 (wordAt l (productionEventsAt + p))) (leb (wordAt l (productionCallsAt + p)) 8 ∷ leb (total (sizeAt l) (total (wordAt l) productionEventsAt p) (wordAt l (productionEventsAt + p))) 24 ∷ []) (
           le-leb 1 (wordAt l (productionEventsAt + p)) (f .events),
           (
             le-leb (wordAt l (productionCallsAt + p)) 8 (f .calls),
             (
               le-leb (total (sizeAt l) (total (wordAt l) productionEventsAt p) (wordAt l (productionEventsAt + p))) 24
-                  (sizes-within (total (wordAt l) productionEventsAt p) (wordAt l (productionEventsAt + p)) (omega (arith, total-part (wordAt l) productionEventsAt p k h, e)) (f .events) (f .within)),
+                  (sizes-within (total (wordAt l) productionEventsAt p) (wordAt l (productionEventsAt + p)) (omega (arith, total-part (wordAt l) productionEventsAt p k h, e)) (f .within)),
               tt,
             ),
           ),
@@ -273,31 +303,28 @@ module _ (l : List ℕ) (n : ℕ) (ok : every (eventOk l) 0 n ≡ true) (extra :
     low-events : total (lowAt l) productionEventsAt k ≡ total (wordAt l) productionEventsAt k
     low-events = low-total l productionEventsAt k (λ p h. small p (plain-at p h))
       where
-        small : (p : ℕ) → PlainFacts l (mostEvents extra) p → wordAt l (productionEventsAt + p) < 256
-        small p f = omega (arith, most-below extra)
+        small : (p : ℕ) → PlainFacts l (mostEvents extra (leastEvents few)) p → wordAt l (productionEventsAt + p) < 256
+        small p f = omega (arith, most-below extra (leastEvents few) (least-below few))
 
     low-calls : total (lowAt l) productionCallsAt k ≡ total (wordAt l) productionCallsAt k
     low-calls = low-total l productionCallsAt k (λ p h. small p (plain-at p h))
       where
-        small : (p : ℕ) → PlainFacts l (mostEvents extra) p → wordAt l (productionCallsAt + p) < 256
+        small : (p : ℕ) → PlainFacts l (mostEvents extra (leastEvents few)) p → wordAt l (productionCallsAt + p) < 256
         small p f = omega arith
 
-    -- where no production can pass its limit, only the sums are left to be tested
-    pub plain-sequences : (calls : ℕ) → n + extra ≤ 256
-        → (eqb (total (lowAt l) productionEventsAt k) n && eqb (total (lowAt l) productionCallsAt k) calls) ≡ sequencesOk l k n calls
+    -- where no production can pass its limit, only the sums and the table's own limit are left to be tested
+    pub plain-sequences : (calls : ℕ)
+        → (eqb (total (lowAt l) productionEventsAt k) n && eqb (total (lowAt l) productionCallsAt k) calls && leb (total (sizeAt l) 0 n) 256) ≡ sequencesOk l k n calls
     unfolding sequencesOk
-    plain-sequences calls b = rw (low-events, low-calls) (go (eqb (total (wordAt l) productionEventsAt k) n) refl)
+    plain-sequences calls = rw (low-events, low-calls) (go (eqb (total (wordAt l) productionEventsAt k) n) refl)
       where
-        size : leb (total (sizeAt l) 0 n) 256 ≡ true
-        size = le-leb (total (sizeAt l) 0 n) 256 (omega (arith, sizes-extra l n ok 0 n (omega arith)))
-
         go : (t : Bool) → eqb (total (wordAt l) productionEventsAt k) n ≡ t
-            → (eqb (total (wordAt l) productionEventsAt k) n && eqb (total (wordAt l) productionCallsAt k) calls)
+            → (eqb (total (wordAt l) productionEventsAt k) n && eqb (total (wordAt l) productionCallsAt k) calls && leb (total (sizeAt l) 0 n) 256)
             ≡ (eqb (total (wordAt l) productionEventsAt k) n && eqb (total (wordAt l) productionCallsAt k) calls && every (productionOk l) 0 k && leb (total (sizeAt l) 0 n) 256)
         go true q =
             let e = eqb-true (total (wordAt l) productionEventsAt k) n q in
             let pr : every (productionOk l) 0 k ≡ true = every-all (productionOk l) 0 k (λ p h. rw zero-add (production-within p e h)) in
-            rw (q, pr, size) (sym (and-true (eqb (total (wordAt l) productionCallsAt k) calls && true) ∙ and-true (eqb (total (wordAt l) productionCallsAt k) calls)))
+            rw (q, pr, and-true (eqb (total (wordAt l) productionCallsAt k) calls))
         go false q = rw q
 
 -- ---- Calls

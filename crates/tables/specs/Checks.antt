@@ -146,10 +146,19 @@ plainOk l most p =
     && leb (wordAt l (productionCallsAt + p)) 8
     && leb (wordAt l (productionEventsAt + p)) most
 
+-- the count of event i is at most 3
+unfoldable pub fewAt : List ℕ → ℕ → Bool
+fewAt l i = ltb (wordAt l (countsAt + i)) 4
+
+-- how many events a production may have in any table, or in one with no count above 3: one event stands for at most 18
+-- events, and with such a count for at most 6
+unfoldable pub leastEvents : Bool → ℕ
+leastEvents few = cond few 4 1
+
 -- how many events a production may have, whichever they are, in a table whose events stand for at most this many more than
--- they are: one event alone stands for at most 18
-unfoldable pub mostEvents : ℕ → ℕ
-mostEvents extra = cond (leb extra 23) (24 - extra) 1
+-- they are
+unfoldable pub mostEvents : (extra least : ℕ) → ℕ
+mostEvents extra least = cond (leb (extra + least) 24) (24 - extra) least
 
 -- n productions that have these numbers of events and calls, and stand for no more events than they may
 unfoldable pub sequencesOk : List ℕ → (n events calls : ℕ) → Bool

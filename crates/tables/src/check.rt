@@ -10,7 +10,7 @@ ghost use Rattle.words.specs.Words.{wordAt};
 ghost use Rattle.words.specs.Runs.{every, total};
 ghost use Rattle.tables.specs.Layout.{productionEventsAt, productionCallsAt, countsAt, callParametersAt};
 ghost use Rattle.tables.specs.Whole.{whole};
-ghost use Rattle.tables.specs.Checks.{textWordsOk, countWordsOk, headerOk, sumsOk, productionsRest, testsRest, detailsRest, callsRest, parametersRest, unusedOk, eventWordsOk, eventOk, textOf, callWordsOk, callOk, parameterOk, parametersOk, inTurn, sizeOf, sizeAt, productionOk, plainOk, mostEvents, sequencesOk, lowAt, entriesOk};
+ghost use Rattle.tables.specs.Checks.{textWordsOk, countWordsOk, headerOk, sumsOk, productionsRest, testsRest, detailsRest, callsRest, parametersRest, unusedOk, eventWordsOk, eventOk, textOf, callWordsOk, callOk, parameterOk, parametersOk, inTurn, sizeOf, sizeAt, productionOk, plainOk, leastEvents, mostEvents, sequencesOk, fewAt, lowAt, entriesOk};
 
 // ---- The header
 
@@ -125,13 +125,21 @@ fn event_ok(code: u16, count: u16, set: u16, clear: u16, flags: u16, low: u16, h
         & ((given == 1) | ((given | low | high) == 0))
 }
 
-// The events, and the sum of their counts.
-fn events_tally(l: &[u8], n: usize) -> Tally
+// What the loop over events finds: whether all are in range, the sum of the lower bytes of their counts, and whether no count
+// is above 3.
+pub struct EventTally {
+    pub ok: bool,
+    pub counts: u16,
+    pub few: bool,
+}
+
+fn events_tally(l: &[u8], n: usize) -> EventTally
     requires { ⌜ (5904 ≤ length (now l)) × (n ≤ 256) ⌝ }
-    ensures { λ r. ⌜ (r .ok ≡ every (eventOk (now (l .entry))) 0 n) × (r .total ≡ total (lowAt (now (l .entry))) countsAt n) ⌝ }
+    ensures { λ r. ⌜ (r .ok ≡ every (eventOk (now (l .entry))) 0 n) × (r .counts ≡ total (lowAt (now (l .entry))) countsAt n) × (r .few ≡ every (fewAt (now (l .entry))) 0 n) ⌝ }
 {
     let mut ok = true;
     let mut counts: u16 = 0;
+    let mut joined: u16 = 0;
     let mut i: usize = 0;
     while i < n {
         let count = words::word_at(l, 392 + i);
@@ -146,11 +154,13 @@ fn events_tally(l: &[u8], n: usize) -> Tally
                 words::word_at(l, 1672 + i),
             );
         counts += count % 256;
+        joined = joined | count;
         i += 1;
     }
-    Tally {
+    EventTally {
         ok: ok,
-        total: counts,
+        counts: counts,
+        few: joined < 4,
     }
 }
 
@@ -397,10 +407,21 @@ fn productions_tally(l: &[u8], n: usize, most: u16) -> Sums
     }
 }
 
-fn most_events(extra: usize) -> u16
-    ensures { λ r. ⌜ r ≡ mostEvents extra ⌝ }
+fn least_events(few: bool) -> u16
+    ensures { λ r. ⌜ r ≡ leastEvents few ⌝ }
 {
-    if extra <= 23 { (24 - extra) as u16 } else { 1 }
+    if few { 4 } else { 1 }
+}
+
+fn most_events(extra: usize, least: u16) -> u16
+    requires { ⌜ (extra < 200000) × (least ≤ 24) ⌝ }
+    ensures { λ r. ⌜ r ≡ mostEvents extra least ⌝ }
+{
+    if extra + (least as usize) <= 24 {
+        (24 - extra) as u16
+    } else {
+        least
+    }
 }
 
 // The productions, event by event.
@@ -417,17 +438,31 @@ fn exact_ok(l: &[u8], n: usize, events: usize, calls: usize) -> bool
     productions_ok(l, n) & (sizes(l, 0, events) <= 256)
 }
 
+// Whether the events of the table stand for no more than they may, where they stand for at most `extra` more than they are.
+fn sizes_ok(l: &[u8], events: usize, extra: usize) -> bool
+    requires { ⌜ ((5904 ≤ length (now l)) × (events ≤ 256)) × ((every (eventOk (now l)) 0 events ≡ true) × (extra ≡ 3 * (total (wordAt (now l)) countsAt events - events)) × (extra < 200000)) ⌝ }
+    ensures { λ r. ⌜ r ≡ leb (total (sizeAt (now (l .entry))) 0 events) 256 ⌝ }
+{
+    if events + extra <= 256 {
+        return true;
+    }
+    sizes(l, 0, events) <= 256
+}
+
 // The productions and how many events they stand for. An event of count c stands for at most 3 (c - 1) events more than one,
-// so the counts tell what all events together may stand for beyond their number; mostly no production can pass its limit
-// by that.
-fn sequences_ok(l: &[u8], n: usize, events: usize, calls: usize, counts: usize) -> bool
-    requires { ⌜ ((5904 ≤ length (now l)) × (n ≤ 64)) × ((events ≤ 256) × (calls ≤ 128)) × ((every (eventOk (now l)) 0 events ≡ true) × (counts ≡ total (wordAt (now l)) countsAt events) × (events ≤ counts) × (counts < 65536)) ⌝ }
+// so the counts tell what all events together may stand for beyond their number; and an event of a count of at most 3 stands
+// for at most 6, so that a production of four such events is within its limit whatever the others are. Mostly no production
+// can pass its limit by that.
+fn sequences_ok(l: &[u8], n: usize, events: usize, calls: usize, counts: usize, few: bool) -> bool
+    requires { ⌜ ((5904 ≤ length (now l)) × (n ≤ 64)) × ((events ≤ 256) × (calls ≤ 128)) × ((every (eventOk (now l)) 0 events ≡ true) × (counts ≡ total (wordAt (now l)) countsAt events) × (events ≤ counts) × (counts < 65536) × (few ≡ every (fewAt (now l)) 0 events)) ⌝ }
     ensures { λ r. ⌜ r ≡ sequencesOk (now (l .entry)) n events calls ⌝ }
 {
     let extra = 3 * (counts - events);
-    let sums = productions_tally(l, n, most_events(extra));
-    if sums.ok & (events + extra <= 256) {
-        return (sums.events as usize == events) & (sums.calls as usize == calls);
+    let sums = productions_tally(l, n, most_events(extra, least_events(few)));
+    if sums.ok {
+        return (sums.events as usize == events)
+            & (sums.calls as usize == calls)
+            & sizes_ok(l, events, extra);
     }
     exact_ok(l, n, events, calls)
 }
@@ -455,7 +490,7 @@ fn entries_ok(l: &[u8]) -> bool
         return false;
     }
     spans_ok(l, calls, parameters as usize)
-        & sequences_ok(l, productions, events, calls, e.total as usize)
+        & sequences_ok(l, productions, events, calls, e.counts as usize, e.few)
 }
 
 // Whether the bytes are a whole table. What stands past its length plays no part.

@@ -1,8 +1,8 @@
 -- Laws of tests, sums and lists over a run of numbers.
-use Prim.Native.Nat.{ℕ, zero, suc, _+_, _-_, _≤_, _<_}
+use Prim.Native.Nat.{ℕ, zero, suc, _+_, _-_, _*_, _≤_, _<_}
 use native.Mathlib.Omega.{arith}
 use native.Mathlib.Numerals.{add-one}
-use native.Mathlib.Nat.{zero-add, suc-add, add-zero, add-suc}
+use native.Mathlib.Nat.{zero-add, suc-add, add-zero, add-suc, suc-mul}
 use mathlib.Core.Path.{_≡_, refl, sym, ap, _∙_}
 use mathlib.Core.List.{List, [], _∷_, _++_, map}
 use mathlib.Core.Bool.{Bool, true, false, _&&_, and-true, and-assoc}
@@ -91,6 +91,15 @@ pub total-part : (f : ℕ → ℕ) (s i n : ℕ) → i < n → total f s i + f (
 total-part f s i n h =
     let e : n ≡ (i + 1) + (n - (i + 1)) = omega arith in
     rw e (omega (arith, total-add f s (i + 1) (n - (i + 1)), total-more f s i))
+
+-- a sum of numbers that have a bound
+pub total-bound : (f : ℕ → ℕ) (s n b : ℕ) → ((i : ℕ) → i < n → f (s + i) ≤ b) → total f s n ≤ n * b
+unfolding total
+total-bound f s zero b h = omega arith
+total-bound f s (suc n) b h =
+    let a = total-bound f s n b (λ i q. h i (omega arith)) in
+    let c = h n (omega arith) in
+    rw (suc-mul n b) (omega (arith, a, c))
 
 -- numbers of at least 1
 module _ (f : ℕ → ℕ) (s : ℕ) where

@@ -74,8 +74,8 @@ cast-sequences-ok c = search needs
 sequences-ok-requires : tie.Need-sequences-ok-requires
 sequences-ok-requires c κs =
     let ev : every (eventOk (c .before .before .before .before .before .before .before .before .before .before .before .before .before .before .before .args .l .now)) 0 (c .before .before .before .before .before .before .before .before .before .before .before .before .word-at2 .result) ≡ true = sym (c .before .before .before .before .before .before .before .before .before .events-tally .ensures .0) ∙ not-false (c .before .before .before .before .before .before .before .before .before .events-tally .result .ok) (c .before .before .before .before .before .before .before .if1 .left) in
-    let t : c .before .before .before .before .before .before .before .before .before .events-tally .result .total ≡ total (wordAt (c .before .before .before .before .before .before .before .before .before .before .before .before .before .before .before .args .l .now)) countsAt (c .before .before .before .before .before .before .before .before .before .before .before .before .word-at2 .result) = c .before .before .before .before .before .before .before .before .before .events-tally .ensures .1 ∙ low-counts (c .before .before .before .before .before .before .before .before .before .before .before .before .before .before .before .args .l .now) (c .before .before .before .before .before .before .before .before .before .before .before .before .word-at2 .result) ev in
-    ((search needs, search needs), (search needs, search needs), (ev, t, rw t (counts-ge (c .before .before .before .before .before .before .before .before .before .before .before .before .before .before .before .args .l .now) (c .before .before .before .before .before .before .before .before .before .before .before .before .word-at2 .result) ev), search needs))
+    let t : c .before .before .before .before .before .before .before .before .before .events-tally .result .counts ≡ total (wordAt (c .before .before .before .before .before .before .before .before .before .before .before .before .before .before .before .args .l .now)) countsAt (c .before .before .before .before .before .before .before .before .before .before .before .before .word-at2 .result) = c .before .before .before .before .before .before .before .before .before .events-tally .ensures .1 ∙ low-counts (c .before .before .before .before .before .before .before .before .before .before .before .before .before .before .before .args .l .now) (c .before .before .before .before .before .before .before .before .before .before .before .before .word-at2 .result) ev in
+    ((search needs, search needs), (search needs, search needs), (ev, t, rw t (counts-ge (c .before .before .before .before .before .before .before .before .before .before .before .before .before .before .before .args .l .now) (c .before .before .before .before .before .before .before .before .before .before .before .before .word-at2 .result) ev), search needs, c .before .before .before .before .before .before .before .before .before .events-tally .ensures .2))
 
 returns-4 : tie.Need-returns-4
 returns-4 c =

@@ -4,29 +4,32 @@ use native.Mathlib.Omega.{arith}
 use native.Mathlib.Nat.{zero-add}
 use Prim.Native.Nat.{_+_, _-_, _*_, _≤_}
 use mathlib.Core.Path.{_≡_, refl, sym, _∙_}
+use lib.Dec.{ltb}
 use lib.ListN.{length}
 use Rattle.words.specs.Words.{wordAt}
 use Rattle.words.specs.Runs.{every, total}
 use Rattle.words.proofs.RunLaws.{every-more, total-more}
+use Rattle.words.proofs.Zeros.{or-below}
 use Rattle.tables.specs.Layout.{countsAt}
-use Rattle.tables.specs.Checks.{eventOk, lowAt}
+use Rattle.tables.specs.Checks.{eventOk, fewAt, lowAt}
 use Rattle.tables.proofs.check.events_tally.Statement.{statement}
 use Rattle.tables.proofs.check.events_tally.Tie as tie
 
 abbrev Inv-loop : tie.InvT-loop
-Inv-loop l n ok₀ counts₀ i₀ ok counts i =
+Inv-loop l n ok₀ counts₀ joined₀ i₀ ok counts joined i =
     (i ≤ n)
     × ((5904 ≤ length l) × (n ≤ 256))
     × (ok ≡ every (eventOk l) 0 i)
     × (counts ≤ 255 * i)
     × (counts ≡ total (lowAt l) countsAt i)
+    × (ltb joined 4 ≡ every (fewAt l) 0 i)
 
 abbrev μ-loop : tie.MeasureT-loop
-μ-loop l n ok₀ counts₀ i₀ ok counts i = n - i
+μ-loop l n ok₀ counts₀ joined₀ i₀ ok counts joined i = n - i
 
 loop-holds : tie.Need-loop-holds Inv-loop μ-loop
 unfolding every total
-loop-holds c = (search needs, (search needs, search needs), refl, search needs, refl)
+loop-holds c = (search needs, (search needs, search needs), refl, search needs, refl, refl)
 
 add-word-at : tie.Need-add-word-at Inv-loop μ-loop
 add-word-at c = search needs
@@ -83,19 +86,20 @@ loop-less : tie.Need-loop-less Inv-loop μ-loop
 loop-less c = search needs
 
 loop-again : tie.Need-loop-again Inv-loop μ-loop
-unfolding eventOk lowAt
+unfolding eventOk lowAt fewAt
 loop-again c = (
   search needs,
   (search needs, search needs),
   rw (every-more, zero-add, c .event-ok .ensures, c .before .before .before .before .before .before .before .word-at .ensures, c .before .before .before .before .before .before .word-at2 .ensures, c .before .before .before .before .before .word-at3 .ensures, c .before .before .before .before .word-at4 .ensures, c .before .before .before .word-at5 .ensures, c .before .before .word-at6 .ensures, c .before .word-at7 .ensures, c .before .before .before .before .before .before .before .before .before .loop .inv .2),
   search needs,
   rw (total-more, ← c .before .before .before .before .before .before .before .before .before .loop .inv .4, c .before .before .before .before .before .before .before .word-at .ensures),
+  or-below 2 (c .before .before .before .before .before .before .before .before .before .loop .joined) (c .before .before .before .before .before .before .before .word-at .result) ∙ rw (every-more, zero-add, c .before .before .before .before .before .before .before .before .before .loop .inv .5, c .before .before .before .before .before .before .before .word-at .ensures),
 )
 
 returns : tie.Need-returns Inv-loop μ-loop
 returns c =
     let e : c .before .loop .i ≡ c .before .before .before .args .n = omega arith in
-    (c .before .loop .inv .2 ∙ rw e, c .before .loop .inv .4 ∙ rw e)
+    (c .before .loop .inv .2 ∙ rw e, c .before .loop .inv .4 ∙ rw e, c .before .loop .inv .5 ∙ rw e)
 
 pub events-tally-spec : {M : Type 1} → statement M
 events-tally-spec =

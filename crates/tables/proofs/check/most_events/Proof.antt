@@ -5,6 +5,9 @@ use Rattle.tables.specs.Checks.{mostEvents}
 use Rattle.tables.proofs.check.most_events.Statement.{statement}
 use Rattle.tables.proofs.check.most_events.Tie as tie
 
+add-if1 : tie.Need-add-if1
+add-if1 c = search needs
+
 sub-result : tie.Need-sub-result
 sub-result c = search needs
 
@@ -20,4 +23,4 @@ unfolding mostEvents
 returns-2 c = rw (lt-leb _ _ (c .if1 .left))
 
 pub most-events-spec : {M : Type 1} → statement M
-most-events-spec = tie.close (tie.spec sub-result cast-result returns returns-2)
+most-events-spec = tie.close (tie.spec add-if1 sub-result cast-result returns returns-2)

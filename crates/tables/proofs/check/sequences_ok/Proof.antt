@@ -1,16 +1,13 @@
 -- `tables::check::sequences_ok` meets its contract.
 use borrow.Author.Needs.{needs}
-use native.Mathlib.Omega.{arith}
-use Prim.Native.Nat.{_+_, _-_, _*_, _≤_}
-use mathlib.Core.Path.{_≡_, sym, ap, _∙_}
+use Prim.Native.Nat.{_-_, _*_}
+use mathlib.Core.Path.{_≡_, sym, _∙_}
 use mathlib.Core.Bool.{true}
-use borrow.Author.Tests.{leb-true}
 use Rattle.words.specs.Words.{wordAt}
 use Rattle.words.specs.Runs.{every, total}
-use Rattle.words.proofs.Bools.{and-left, and-right}
 use Rattle.tables.specs.Layout.{countsAt}
-use Rattle.tables.specs.Checks.{plainOk, mostEvents}
-use Rattle.tables.proofs.Shortcuts.{plain-sequences}
+use Rattle.tables.specs.Checks.{plainOk, leastEvents, mostEvents}
+use Rattle.tables.proofs.Shortcuts.{least-below, plain-sequences}
 use Rattle.tables.proofs.check.sequences_ok.Statement.{statement}
 use Rattle.tables.proofs.check.sequences_ok.Tie as tie
 
@@ -20,14 +17,14 @@ sub-extra c = search needs
 mul-extra : tie.Need-mul-extra
 mul-extra c = search needs
 
+least-events-requires : tie.Need-least-events-requires
+least-events-requires c κs = search needs
+
 most-events-requires : tie.Need-most-events-requires
-most-events-requires c κs = search needs
+most-events-requires c κs = (search needs, rw (c .least-events .ensures) (least-below (c .before .before .args .few)))
 
 productions-tally-requires : tie.Need-productions-tally-requires
 productions-tally-requires c κs = search needs
-
-add-if1 : tie.Need-add-if1
-add-if1 c = search needs
 
 cast-result : tie.Need-cast-result
 cast-result c = search needs
@@ -35,14 +32,15 @@ cast-result c = search needs
 cast-result-2 : tie.Need-cast-result-2
 cast-result-2 c = search needs
 
+sizes-ok-requires : tie.Need-sizes-ok-requires
+sizes-ok-requires c κs = search needs
+
 returns : tie.Need-returns
 returns c =
-    let extra : 3 * (c .before .before .before .before .before .before .before .args .counts - c .before .before .before .before .before .before .before .args .events) ≡ 3 * (total (wordAt (c .before .before .before .before .before .before .before .args .l .now)) countsAt (c .before .before .before .before .before .before .before .args .events) - c .before .before .before .before .before .before .before .args .events) = rw (c .before .before .before .before .before .before .before .pre .2 .1) in
-    let plain : every (plainOk (c .before .before .before .before .before .before .before .args .l .now) (mostEvents (3 * (c .before .before .before .before .before .before .before .args .counts - c .before .before .before .before .before .before .before .args .events)))) 0 (c .before .before .before .before .before .before .before .args .n) ≡ true = rw (← c .before .before .before .before .before .most-events .ensures) (sym (c .before .before .before .before .productions-tally .ensures .0) ∙ and-left (c .before .before .before .before .productions-tally .result .ok) _ (c .before .before .if1 .taken)) in
-    let test = and-right (c .before .before .before .before .productions-tally .result .ok) _ (c .before .before .if1 .taken) in
-    let within : c .before .before .before .before .before .before .before .args .events + 3 * (c .before .before .before .before .before .before .before .args .counts - c .before .before .before .before .before .before .before .args .events) ≤ 256 = omega (arith, leb-true) in
-    rw (c .before .before .before .before .productions-tally .ensures .1, c .before .before .before .before .productions-tally .ensures .2)
-    (plain-sequences (c .before .before .before .before .before .before .before .args .l .now) (c .before .before .before .before .before .before .before .args .events) (c .before .before .before .before .before .before .before .pre .2 .0) (3 * (c .before .before .before .before .before .before .before .args .counts - c .before .before .before .before .before .before .before .args .events)) extra (c .before .before .before .before .before .before .before .args .n) plain (c .before .before .before .before .before .before .before .args .calls) within)
+    let extra : 3 * (c .before .before .before .before .before .before .before .before .args .counts - c .before .before .before .before .before .before .before .before .args .events) ≡ 3 * (total (wordAt (c .before .before .before .before .before .before .before .before .args .l .now)) countsAt (c .before .before .before .before .before .before .before .before .args .events) - c .before .before .before .before .before .before .before .before .args .events) = rw (c .before .before .before .before .before .before .before .before .pre .2 .1) in
+    let plain : every (plainOk (c .before .before .before .before .before .before .before .before .args .l .now) (mostEvents (3 * (c .before .before .before .before .before .before .before .before .args .counts - c .before .before .before .before .before .before .before .before .args .events)) (leastEvents (c .before .before .before .before .before .before .before .before .args .few)))) 0 (c .before .before .before .before .before .before .before .before .args .n) ≡ true = rw (← c .before .before .before .before .before .before .least-events .ensures, ← c .before .before .before .before .before .most-events .ensures) (sym (c .before .before .before .before .productions-tally .ensures .0) ∙ c .before .before .before .if1 .taken) in
+    rw (c .before .before .before .before .productions-tally .ensures .1, c .before .before .before .before .productions-tally .ensures .2, c .sizes-ok .ensures)
+    (plain-sequences (c .before .before .before .before .before .before .before .before .args .l .now) (c .before .before .before .before .before .before .before .before .args .events) (c .before .before .before .before .before .before .before .before .pre .2 .0) (3 * (c .before .before .before .before .before .before .before .before .args .counts - c .before .before .before .before .before .before .before .before .args .events)) extra (c .before .before .before .before .before .before .before .before .args .few) (c .before .before .before .before .before .before .before .before .pre .2 .4) (c .before .before .before .before .before .before .before .before .args .n) plain (c .before .before .before .before .before .before .before .before .args .calls))
 
 exact-ok-requires : tie.Need-exact-ok-requires
 exact-ok-requires c κs = search needs
@@ -56,11 +54,12 @@ sequences-ok-spec =
     (tie.spec
     sub-extra
     mul-extra
+    least-events-requires
     most-events-requires
     productions-tally-requires
-    add-if1
     cast-result
     cast-result-2
+    sizes-ok-requires
     returns
     exact-ok-requires
     returns-2)
