@@ -1,12 +1,13 @@
 -- Bounds that the loops of the checks keep, and where the checks stop.
-use Prim.Native.Nat.{ℕ, _≤_, _<_}
+use Prim.Native.Nat.{ℕ, _-_, _*_, _≤_, _<_}
 use native.Mathlib.Omega.{arith}
 use mathlib.Core.Path.{_≡_, refl}
 use mathlib.Core.List.{List}
 use mathlib.Core.Bool.{Bool, true, false, cond, _||_, _&&_}
-use lib.Dec.{leb, eqb}
+use lib.Dec.{leb, ltb, eqb}
 use lib.ListN.{length}
-use borrow.Author.Tests.{lt-ltb, le-ltb}
+use borrow.Author.Tests.{lt-ltb, le-ltb, le-leb, lt-leb, ltb-true, ltb-false}
+use Rattle.words.proofs.Bools.{and-left, and-right}
 use Rattle.tables.specs.Layout.{tableLength, flag}
 use Rattle.tables.specs.Checks.{sizeOf, headerOk, sumsOk, unusedOk, entriesOk, checks}
 
@@ -18,6 +19,22 @@ size-below c n h = go (leb n 1) refl (eqb c 3 || eqb c 5) refl
     go true p b q = rw p (omega arith)
     go false p true q = rw (p, q) (omega arith)
     go false p false q = rw (p, q) (omega arith)
+
+-- an event in range stands for one event less than twice its count, or for twice its count where it is a counted release
+module _ (c n : ℕ) where
+  pub size-twice : (ltb 1 n && (eqb c 3 || eqb c 5)) ≡ true → sizeOf c n ≡ 2 * n
+  unfolding sizeOf
+  size-twice e =
+      let h = ltb-true 1 n (and-left (ltb 1 n) (eqb c 3 || eqb c 5) e) in
+      rw (lt-leb n 1 h, and-right (ltb 1 n) (eqb c 3 || eqb c 5) e)
+
+  pub size-less : 1 ≤ n → (ltb 1 n && (eqb c 3 || eqb c 5)) ≡ false → sizeOf c n ≡ 2 * n - 1
+  unfolding sizeOf
+  size-less b e = go (ltb 1 n) refl
+    where
+      go : (t : Bool) → ltb 1 n ≡ t → sizeOf c n ≡ 2 * n - 1
+      go true q = rw (lt-leb n 1 (ltb-true 1 n q), rw q at e)
+      go false q = let h = ltb-false 1 n q in rw (le-leb n 1 h) (omega arith)
 
 -- ---- Where the checks stop
 

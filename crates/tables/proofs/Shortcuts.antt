@@ -144,7 +144,7 @@ size-more c n h = go (leb n 1) refl (eqb c 3 || eqb c 5) refl
     go false p true q = let m = leb-false n 1 p in rw (p, q) (omega arith)
     go false p false q = let m = leb-false n 1 p in rw (p, q) (omega arith)
 
-size-most : (c n : ℕ) → n ≤ 9 → sizeOf c n ≤ 18
+pub size-most : (c n : ℕ) → n ≤ 9 → sizeOf c n ≤ 18
 unfolding sizeOf
 size-most c n h = go (leb n 1) refl (eqb c 3 || eqb c 5) refl
   where
@@ -175,21 +175,27 @@ spare-total l (suc n) b =
     rw zero-add (omega arith)
 
 module _ (l : List ℕ) (n : ℕ) (ok : every (eventOk l) 0 n ≡ true) where
-  pub event-at : (i : ℕ) → i < n
+  event-at : (i : ℕ) → i < n
       → EventFacts (wordAt l (codesAt + i)) (wordAt l (countsAt + i)) (wordAt l (setsAt + i)) (wordAt l (clearsAt + i)) (wordAt l (flagsAt + i)) (wordAt l (lowsAt + i)) (wordAt l (highsAt + i))
   unfolding eventOk
   event-at i h =
       event-facts (wordAt l (codesAt + i)) (wordAt l (countsAt + i)) (wordAt l (setsAt + i)) (wordAt l (clearsAt + i)) (wordAt l (flagsAt + i)) (wordAt l (lowsAt + i)) (wordAt l (highsAt + i))
       (rw zero-add at (every-at (eventOk l) 0 n i ok h))
 
+  pub count-low : (i : ℕ) → i < n → 1 ≤ wordAt l (countsAt + i)
+  count-low i h = event-at i h .countLow
+
+  pub count-high : (i : ℕ) → i < n → wordAt l (countsAt + i) ≤ 9
+  count-high i h = event-at i h .countHigh
+
   pub low-counts : total (lowAt l) countsAt n ≡ total (wordAt l) countsAt n
-  low-counts = low-total l countsAt n (λ i h. small i (event-at i h .countHigh))
+  low-counts = low-total l countsAt n (λ i h. small i (count-high i h))
     where
       small : (i : ℕ) → wordAt l (countsAt + i) ≤ 9 → wordAt l (countsAt + i) < 256
       small i h = omega arith
 
   spare-counts : total (spareAt l) 0 n + n ≡ total (wordAt l) countsAt n
-  spare-counts = spare-total l n (λ i h. event-at i h .countLow)
+  spare-counts = spare-total l n count-low
 
   pub counts-ge : n ≤ total (wordAt l) countsAt n
   counts-ge = omega (arith, spare-counts)
@@ -199,7 +205,7 @@ module _ (l : List ℕ) (n : ℕ) (ok : every (eventOk l) 0 n ≡ true) where
   sizes-more from zero h = omega arith
   sizes-more from (suc m) h =
       let a = sizes-more from m (omega arith) in
-      let b = size-more (wordAt l (codesAt + (from + m))) (wordAt l (countsAt + (from + m))) (event-at (from + m) (omega arith) .countLow) in
+      let b = size-more (wordAt l (codesAt + (from + m))) (wordAt l (countsAt + (from + m))) (count-low (from + m) (omega arith)) in
       omega arith
 
   spare-part : (from m : ℕ) → from + m ≤ n → total (spareAt l) from m ≤ total (spareAt l) 0 n
@@ -216,7 +222,7 @@ module _ (l : List ℕ) (n : ℕ) (ok : every (eventOk l) 0 n ≡ true) where
   size-any : (from m i : ℕ) → from + m ≤ n → i < m → sizeAt l (from + i) ≤ 18
   unfolding sizeAt
   size-any from m i h b =
-      size-most (wordAt l (codesAt + (from + i))) (wordAt l (countsAt + (from + i))) (event-at (from + i) (omega arith) .countHigh)
+      size-most (wordAt l (codesAt + (from + i))) (wordAt l (countsAt + (from + i))) (count-high (from + i) (omega arith))
 
   few-at : (i : ℕ) → every (fewAt l) 0 n ≡ true → i < n → wordAt l (countsAt + i) < 4
   unfolding fewAt

@@ -438,6 +438,32 @@ fn exact_ok(l: &[u8], n: usize, events: usize, calls: usize) -> bool
     productions_ok(l, n) & (sizes(l, 0, events) <= 256)
 }
 
+// How many events an event in range stands for.
+fn low_size(code: u16, count: u16) -> u16
+    requires { ⌜ (1 ≤ count) × (count ≤ 9) ⌝ }
+    ensures { λ r. ⌜ r ≡ sizeOf code count ⌝ }
+{
+    if (1 < count) & ((code == 3) | (code == 5)) {
+        2 * count
+    } else {
+        2 * count - 1
+    }
+}
+
+// How many events the first n stand for, all in range.
+fn low_sizes(l: &[u8], n: usize) -> u16
+    requires { ⌜ (5904 ≤ length (now l)) × (n ≤ 256) × (every (eventOk (now l)) 0 n ≡ true) ⌝ }
+    ensures { λ r. ⌜ r ≡ total (sizeAt (now (l .entry))) 0 n ⌝ }
+{
+    let mut s: u16 = 0;
+    let mut i: usize = 0;
+    while i < n {
+        s += low_size(words::word_at(l, 136 + i), words::word_at(l, 392 + i));
+        i += 1;
+    }
+    s
+}
+
 // Whether the events of the table stand for no more than they may, where they stand for at most `extra` more than they are.
 fn sizes_ok(l: &[u8], events: usize, extra: usize) -> bool
     requires { ⌜ ((5904 ≤ length (now l)) × (events ≤ 256)) × ((every (eventOk (now l)) 0 events ≡ true) × (extra ≡ 3 * (total (wordAt (now l)) countsAt events - events)) × (extra < 200000)) ⌝ }
@@ -446,7 +472,7 @@ fn sizes_ok(l: &[u8], events: usize, extra: usize) -> bool
     if events + extra <= 256 {
         return true;
     }
-    sizes(l, 0, events) <= 256
+    low_sizes(l, events) <= 256
 }
 
 // The productions and how many events they stand for. An event of count c stands for at most 3 (c - 1) events more than one,
