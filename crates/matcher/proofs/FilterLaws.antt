@@ -1,21 +1,19 @@
--- An event that begins a production along which a stretch reads as a prefix passes the quick test.
-use Prim.Native.Nat.{ℕ, suc, _+_, _-_, _*_, _%_, _≤_, _<_}
+-- An event that begins a production along which a stretch reads as a prefix passes the quick test, and so stands within the
+-- bounds of those that pass.
+use Prim.Native.Nat.{ℕ, _+_, _-_, _*_, _%_, _≤_, _<_}
 use native.Mathlib.Omega.{arith}
-use native.Mathlib.Nat.{zero-add}
 use borrow.Author.Tests.{eqb-true, eqb-false, eq-eqb, ltb-true, ltb-false, le-leb}
 use mathlib.Core.Path.{_≡_, refl, sym, ap, _∙_}
-use mathlib.Core.Bool.{Bool, true, false, cond, not, _&&_, _||_, false≢true, true≢false}
+use mathlib.Core.Bool.{Bool, true, false, cond, not, _||_, true≢false}
 use mathlib.Core.List.{List, [], _∷_}
-use mathlib.Core.Option.{none}
+use lib.Bits.{bitOr, and-le-l, and-le-r, or-add-and}
 use lib.Dec.{eqb, leb, ltb}
 use lib.ListN.{length, getD, take, drop}
 use Rattle.words.specs.Words.{wordAt}
-use Rattle.words.specs.Runs.{run, every}
 use Rattle.words.proofs.Bools.{and-left, and-both, or-no-left, or-no-right, chain-parts}
-use Rattle.words.proofs.RunLaws.{every-at}
 use Rattle.keyboard.specs.Folds.{fold, folded}
 use Rattle.keyboard.proofs.Folds.{asked-in}
-use Rattle.model.specs.Counts.{expanded, quick}
+use Rattle.model.specs.Counts.{quick}
 use Rattle.model.specs.Matching.{detailMet}
 use Rattle.model.specs.Keyboard.{firstKeysym, secondKeysym}
 use Rattle.model.specs.Modifiers.{bitsMet, clauseMet, stateMeets}
@@ -23,17 +21,15 @@ use Rattle.model.specs.declared.events.Event.{Event}
 use Rattle.records.specs.Ranges.{EventRanges}
 use Rattle.counts.specs.Elements.{releases, elementCount, elementCode}
 use Rattle.tables.specs.Layout.{codesAt, countsAt, setsAt, clearsAt, lowsAt, highsAt}
-use Rattle.tables.specs.Reading.{isFlag, eventOf, eventAt, eventCount, productionCount, productionEvents, eventsFrom, productionAt, decode}
+use Rattle.tables.specs.Reading.{isFlag, eventOf, eventAt, eventCount}
 use Rattle.matcher.specs.declared.filter.Sought.{Sought}
 use Rattle.matcher.specs.declared.walk.Followed.{Followed}
-use Rattle.matcher.specs.declared.walk.Passed.{Passed}
 use Rattle.matcher.specs.State.{zeroEvent}
-use Rattle.matcher.specs.Walk.{eventMeets, detailAsked, flagsIn, valueIn, elementOf, fitsAfter, sizeIn, walked, followed, passed}
-use Rattle.matcher.specs.Filter.{other, soughtOf, suits, codeSeems, detailSeems, seems, begins, cannotBegin}
+use Rattle.matcher.specs.Walk.{Outside, eventMeets, detailAsked, flagsIn, valueIn, elementOf, fitsAfter, sizeIn}
+use Rattle.matcher.specs.Filter.{other, soughtOf, suits, codeSeems, detailSeems, seems, begins, codeBegins, Within}
 use Rattle.matcher.proofs.TableFacts.{EntryFacts, TableFacts}
 use Rattle.matcher.proofs.EventLaws.{meets-detail}
 use Rattle.matcher.proofs.FollowLaws.{target, Walks, walks-start, walks-other, walks-over, walks-no, walks-turn}
-use Rattle.matcher.proofs.PassLaws.{production-walk, passed-none}
 
 or-true : (a : Bool) → a || true ≡ true
 or-true true = refl
@@ -257,33 +253,80 @@ module _ (map : List ℕ) (limit : ℕ) (l : List ℕ) (f : TableFacts l) (b : B
         go false e = seems-not e
         go true e = on (suits l first (soughtOf map (x from))) refl e
 
--- ---- All productions
+  -- the code alone is another
+  pub code-not : codeBegins l (soughtOf map (x from)) first ≡ false → target map limit l first n events from to ≡ Followed.No
+  unfolding codeBegins seems
+  code-not q = seems-not (rw q)
 
-not-true : (t : Bool) → not t ≡ true → t ≡ false
-not-true true e = absurd (false≢true e)
-not-true false e = refl
+-- ---- Where events stand that pass a test
 
-none-at : (l : List ℕ) (one : Sought) (short : Bool) (two : Sought) (n i : ℕ) → every (cannotBegin l one short two) 0 n ≡ true → i < n
-    → begins l one short two i ≡ false
-unfolding cannotBegin
-none-at l one short two n i q h =
-    not-true (begins l one short two i) (rw zero-add at (every-at (cannotBegin l one short two) 0 n i q h))
+-- what is joined by `|` is at least each of its parts
+or-least-left : (a b : ℕ) → a ≤ bitOr a b
+or-least-left a b = omega (arith, or-add-and a b, and-le-r a b)
 
-pub none-passes : (map : List ℕ) (limit : ℕ) (l : List ℕ) → TableFacts l → Bytes l → (events : List Event) (from to : ℕ)
-    → length events ≡ 25 → to ≤ 25 → from < to → ((j : ℕ) → j < to → EventRanges (getD events j zeroEvent))
-    → (short : Bool) (two : Sought) → short ≡ eqb (from + 1) to → (from + 1 < to → two ≡ soughtOf map (getD events (from + 1) zeroEvent))
-    → every (cannotBegin l (soughtOf map (getD events from zeroEvent)) short two) 0 (eventCount l) ≡ true
-    → passed (decode l) map limit (drop from (take to events)) ≡ Passed.No
-none-passes map limit l f b events from to long room m ranges short two es et q =
-    passed-none map limit l (drop from (take to events)) no
+or-least-right : (a b : ℕ) → b ≤ bitOr a b
+or-least-right a b = omega (arith, or-add-and a b, and-le-l a b)
+
+module _ (f : ℕ → Bool) where
+  -- of the first n events, the numbers i + 1 and 256 - i of each that passes are in the joined ones
+  abbrev pub Noted : (n high turned : ℕ) → Type 0
+  Noted n high turned = (j : ℕ) → j < n → f j ≡ true → (j < high) × (256 ≤ j + turned)
+
+  pub noted-start : Noted 0 0 0
+  noted-start j h e = absurd (omega arith)
+
+  pub noted-step : (i high turned : ℕ) → Noted i high turned → (t : Bool) → t ≡ f i → (a b : ℕ) → a ≡ cond t (i + 1) 0
+      → b ≡ cond t (256 - i) 0 → Noted (i + 1) (bitOr high a) (bitOr turned b)
+  noted-step i high turned w t e a b ea eb j h q = go (ltb j i) refl
+    where
+      go : (s : Bool) → ltb j i ≡ s → (j < bitOr high a) × (256 ≤ j + bitOr turned b)
+      go true k =
+          let d = w j (ltb-true j i k) q in
+          (omega (arith, d .0, or-least-left high a), omega (arith, d .1, or-least-left turned b))
+      go false k =
+          let n : i ≤ j = ltb-false j i k in
+          let m : j ≡ i = omega arith in
+          let u : t ≡ true = e ∙ ap f (sym m) ∙ q in
+          let v : a ≡ i + 1 = ea ∙ ap (λ (s : Bool). cond s (i + 1) 0) u in
+          let z : b ≡ 256 - i = eb ∙ ap (λ (s : Bool). cond s (256 - i) 0) u in
+          (omega (arith, or-least-right high a), omega (arith, or-least-right turned b))
+
+  pub noted-end : (n m high turned low : ℕ) → Noted n high turned → n ≡ m → low ≤ 256 - turned → Within f m low high
+  noted-end n m high turned low w e h j k q =
+      let p : j < n = omega arith in
+      let d = w j p q in
+      (omega (arith, d .1), d .0)
+
+-- an event that does not stand there begins no production along which the stretch reads as a prefix
+pub outside-of : (l map : List ℕ) (events : List Event) (from to : ℕ) (f : ℕ → Bool)
+    → ((limit first n : ℕ) → 1 ≤ n → first + n ≤ eventCount l → f first ≡ false → target map limit l first n events from to ≡ Followed.No)
+    → (low high : ℕ) → Within f (eventCount l) low high → Outside l map (drop from (take to events)) low high
+outside-of l map events from to f none-there low high w =
+    record {
+      before = λ limit first n o b h. none-there limit first n o b (out first (omega arith) (λ d. absurd (omega (arith, d .0))));
+      after = λ limit first n o b h. none-there limit first n o b (out first (omega arith) (λ d. absurd (omega (arith, d .1))));
+    }
   where
-    cannot : (i : ℕ) → i < eventCount l → begins l (soughtOf map (getD events from zeroEvent)) short two i ≡ false
-    cannot i h = none-at l (soughtOf map (getD events from zeroEvent)) short two (eventCount l) i q h
+    out : (i : ℕ) → i < eventCount l → ((low ≤ i) × (i < high) → f i ≡ false) → f i ≡ false
+    out i h k = go (f i) refl
+      where
+        go : (t : Bool) → f i ≡ t → f i ≡ false
+        go true e = k (w i h e)
+        go false e = e
 
-    no : (p : ℕ) → p < productionCount l → followed map limit (drop from (take to events)) (productionAt l p) ≡ Followed.No
-    no p h =
-        let w = f .within p h in
-        let o = f .some p h in
-        production-walk map limit l (drop from (take to events)) p
-        ∙ begins-not map limit l f b (eventsFrom l p) (productionEvents l p) events from to long room m o w ranges short two es et
-        (cannot (eventsFrom l p) (omega arith))
+module _ (map l : List ℕ) (f : TableFacts l) (b : Bytes l) (events : List Event) (from to : ℕ) (long : length events ≡ 25) (room : to ≤ 25)
+    (m : from < to) (ranges : (j : ℕ) → j < to → EventRanges (getD events j zeroEvent)) (one : Sought)
+    (eo : one ≡ soughtOf map (getD events from zeroEvent)) (low high : ℕ) where
+  pub outside-code : Within (codeBegins l one) (eventCount l) low high → Outside l map (drop from (take to events)) low high
+  outside-code =
+      outside-of l map events from to (codeBegins l one)
+      (λ limit first n o w q. code-not map limit l f b first n events from to long room m o w ranges (ap (λ (s : Sought). codeBegins l s first) (sym eo) ∙ q))
+      low high
+
+  pub outside-begins : (short : Bool) (two : Sought) → short ≡ eqb (from + 1) to
+      → (from + 1 < to → two ≡ soughtOf map (getD events (from + 1) zeroEvent)) → Within (begins l one short two) (eventCount l) low high
+      → Outside l map (drop from (take to events)) low high
+  outside-begins short two es et =
+      outside-of l map events from to (begins l one short two)
+      (λ limit first n o w q. begins-not map limit l f b first n events from to long room m o w ranges short two es et (ap (λ (s : Sought). begins l s short two first) (sym eo) ∙ q))
+      low high

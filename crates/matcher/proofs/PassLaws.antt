@@ -26,7 +26,7 @@ use Rattle.tables.specs.Reading.{productionCount, eventCount, productionEvents,
 use Rattle.matcher.specs.declared.walk.Followed.{Followed}
 use Rattle.matcher.specs.declared.walk.Passed.{Passed}
 use Rattle.matcher.specs.State.{zeroEvent}
-use Rattle.matcher.specs.Walk.{walked, followed, passNext, passes, passed, passedIn}
+use Rattle.matcher.specs.Walk.{Outside, Skipped, walked, followed, passNext, passes, passed, passedIn}
 use Rattle.matcher.proofs.TableFacts.{TableFacts}
 
 -- ---- One production
@@ -204,19 +204,6 @@ module _ (map : List ℕ) (limit : ℕ) (l : List ℕ) (xs : List Event) where
   onward-whole p seen r h e q =
       onward-step p seen h ∙ ap (λ (s : Followed). passNext s p (onward (p + 1) seen) (onward (p + 1) true)) (sym e ∙ q)
 
--- a table none of whose productions the stretch reads as a prefix of
-module _ (map : List ℕ) (limit : ℕ) (l : List ℕ) (xs : List Event)
-    (h : (p : ℕ) → p < productionCount l → followed map limit xs (productionAt l p) ≡ Followed.No) where
-  onward-none : (k p : ℕ) → p + k ≡ productionCount l → onward map limit l xs p false ≡ Passed.No
-  onward-none zero p e = onward-end map limit l xs p false (omega arith)
-  onward-none (suc k) p e =
-      let b : p < productionCount l = omega arith in
-      onward-no map limit l xs p false (followed map limit xs (productionAt l p)) b refl (h p b)
-      ∙ onward-none k (p + 1) (omega arith)
-
-  pub passed-none : passed (decode l) map limit xs ≡ Passed.No
-  passed-none = onward-start map limit l xs ∙ onward-none (productionCount l) 0 (omega arith)
-
 pub next-events : (l : List ℕ) (p : ℕ) → eventsFrom l (p + 1) ≡ eventsFrom l p + productionEvents l p
 unfolding eventsFrom productionEvents
 next-events l p = total-more (wordAt l) productionEventsAt p
@@ -224,6 +211,21 @@ next-events l p = total-more (wordAt l) productionEventsAt p
 pub first-events : (l : List ℕ) → eventsFrom l 0 ≡ 0
 unfolding eventsFrom total
 first-events l = refl
+
+-- productions that begin before a bound are stepped over
+pub skipped-start : (l : List ℕ) (low : ℕ) → Skipped l low 0 0
+skipped-start l low = record { most = omega arith; place = sym (first-events l); over = λ q h. absurd (omega arith) }
+
+pub skipped-step : (l : List ℕ) (low at p size : ℕ) → Skipped l low at p → at < low → p < productionCount l → size ≡ productionEvents l p
+    → Skipped l low (at + size) (p + 1)
+skipped-step l low at p size s h d e =
+    record { most = omega arith; place = rw (s .place, e) (sym (next-events l p)); over = λ q k. go q k (eqb q p) refl }
+  where
+    go : (q : ℕ) → q < p + 1 → (t : Bool) → eqb q p ≡ t → eventsFrom l q < low
+    go q k true r = rw (eqb-true q p r, ← s .place) h
+    go q k false r =
+        let n : q ≡ p → ⊥ = eqb-false q p r in
+        s .over q (omega arith)
 
 -- where the pass stands: at production p, whose events begin at `at`
 module _ (map : List ℕ) (limit : ℕ) (l : List ℕ) (xs : List Event) where
@@ -259,6 +261,47 @@ module _ (map : List ℕ) (limit : ℕ) (l : List ℕ) (xs : List Event) where
   pub passing-end : (seen : Bool) (at p : ℕ) → Passing seen at p → productionCount l ≤ p
       → passed (decode l) map limit xs ≡ cond seen Passed.Prefix Passed.No
   passing-end seen at p w h = w .comes ∙ onward-end map limit l xs p seen h
+
+  -- productions before the bounds
+  module _ (low high : ℕ) (f : TableFacts l) (o : Outside l map xs low high) where
+    outside-low : (p : ℕ) → p < productionCount l → eventsFrom l p < low → followed map limit xs (productionAt l p) ≡ Followed.No
+    outside-low p h b =
+        production-walk map limit l xs p
+        ∙ o .before limit (eventsFrom l p) (productionEvents l p) (f .some p h) (f .within p h) b
+
+    onward-over : (p : ℕ) → p ≤ productionCount l → ((q : ℕ) → q < p → eventsFrom l q < low)
+        → passed (decode l) map limit xs ≡ onward map limit l xs p false
+    onward-over zero h b = onward-start map limit l xs
+    onward-over (suc p) h b =
+        let d : p < productionCount l = omega arith in
+        let a : eventsFrom l p < low = b p (omega arith) in
+        rw (← add-one)
+        (onward-over p (omega arith) (λ q c. b q (omega arith))
+        ∙ onward-no map limit l xs p false (followed map limit xs (productionAt l p)) d refl (outside-low p d a))
+
+    pub passing-over : (at p : ℕ) → Skipped l low at p → Passing false at p
+    passing-over at p s = record { low = s .most; place = s .place; comes = onward-over p (s .most) (s .over) }
+
+    -- and past them
+    outside-high : (p : ℕ) → p < productionCount l → high ≤ eventsFrom l p → followed map limit xs (productionAt l p) ≡ Followed.No
+    outside-high p h b =
+        production-walk map limit l xs p
+        ∙ o .after limit (eventsFrom l p) (productionEvents l p) (f .some p h) (f .within p h) b
+
+    onward-past : (seen : Bool) (k p : ℕ) → p + k ≡ productionCount l → high ≤ eventsFrom l p
+        → onward map limit l xs p seen ≡ cond seen Passed.Prefix Passed.No
+    onward-past seen zero p e b = onward-end map limit l xs p seen (omega arith)
+    onward-past seen (suc k) p e b =
+        let d : p < productionCount l = omega arith in
+        let n : high ≤ eventsFrom l (p + 1) = omega (arith, next-events l p) in
+        onward-no map limit l xs p seen (followed map limit xs (productionAt l p)) d refl (outside-high p d b)
+        ∙ onward-past seen k (p + 1) (omega arith) n
+
+    pub passing-past : (seen : Bool) (at p : ℕ) → Passing seen at p → high ≤ at
+        → passed (decode l) map limit xs ≡ cond seen Passed.Prefix Passed.No
+    passing-past seen at p w h =
+        let l₀ = w .low in
+        w .comes ∙ onward-past seen (productionCount l - p) p (omega arith) (rw (← w .place) h)
 
 -- ---- The smallest start
 

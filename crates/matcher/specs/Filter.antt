@@ -1,7 +1,8 @@
 -- A quick test of the events of a table. One that begins a production along which a stretch reads as a prefix passes it
 -- (proofs/FilterLaws), so a production whose first event does not pass need not be walked.
-use Prim.Native.Nat.{ℕ, _+_}
-use mathlib.Core.Bool.{Bool, false, cond, not, _&&_, _||_}
+use Prim.Native.Nat.{ℕ, _+_, _≤_, _<_}
+use mathlib.Core.Path.{_≡_}
+use mathlib.Core.Bool.{Bool, true, false, cond, _&&_, _||_}
 use mathlib.Core.List.{List}
 use lib.Dec.{eqb, leb, ltb}
 use Rattle.words.specs.Words.{wordAt}
@@ -49,5 +50,10 @@ unfoldable pub begins : List ℕ → (one : Sought) (short : Bool) (two : Sought
 begins l one short two i =
     seems l i one && suits l i one && (short || ltb 1 (wordAt l (countsAt + i)) || seems l (i + 1) two)
 
-unfoldable pub cannotBegin : List ℕ → (one : Sought) (short : Bool) (two : Sought) → ℕ → Bool
-cannotBegin l one short two i = not (begins l one short two i)
+-- the same by the code alone
+unfoldable pub codeBegins : List ℕ → Sought → ℕ → Bool
+codeBegins l one i = codeSeems (wordAt l (codesAt + i)) one
+
+-- of the first n events those that pass a test stand from `low` on and before `high`
+abbrev pub Within : (ℕ → Bool) → (n low high : ℕ) → Type 0
+Within f n low high = (i : ℕ) → i < n → f i ≡ true → (low ≤ i) × (i < high)

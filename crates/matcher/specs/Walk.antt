@@ -11,14 +11,15 @@ use Rattle.words.specs.Words.{wordAt}
 use Rattle.model.specs.Keyboard.{firstKeysym, secondKeysym}
 use Rattle.model.specs.Modifiers.{stateMeets}
 use Rattle.model.specs.Tables.{Production, Table}
-use Rattle.model.specs.Counts.{Element, element, sequence, quick}
+use Rattle.model.specs.Counts.{Element, element, expanded, sequence, quick}
 use Rattle.model.specs.Matching.{detailMet, fits}
 use Rattle.model.specs.declared.events.Event.{Event}
 use Rattle.model.specs.declared.events.KeptEvent.{KeptEvent}
 use Rattle.counts.specs.Elements.{elementCount, elementCode, isTimed}
 use Rattle.keyboard.specs.Pairs.{pairAsked}
 use Rattle.tables.specs.Layout.{flagsAt, lowsAt, highsAt}
-use Rattle.tables.specs.Reading.{eventAt}
+use Rattle.words.specs.Runs.{run}
+use Rattle.tables.specs.Reading.{productionCount, eventCount, eventsFrom, eventAt}
 use Rattle.tables.specs.Whole.{whole}
 use Rattle.records.specs.Ranges.{EventRanges}
 use Rattle.matcher.specs.declared.walk.Followed.{Followed}
@@ -100,6 +101,19 @@ passed t map limit xs = passes (followed map limit xs) 0 false (t .productions)
 abbrev pub passedIn : Table → List ℕ → ℕ → List Event → Passed
 passedIn t map limit [] = Passed.No
 passedIn t map limit (x ∷ xs) = passed t map limit (x ∷ xs)
+
+-- no production that begins with an event before `low`, or from `high` on, has the stretch as a prefix
+pub record Outside (l map : List ℕ) (xs : List Event) (low high : ℕ) : Type 0 where
+  pub before : (limit first n : ℕ) → 1 ≤ n → first + n ≤ eventCount l → first < low
+      → walked map limit none none (expanded (run (eventAt l) first n)) xs ≡ Followed.No
+  pub after : (limit first n : ℕ) → 1 ≤ n → first + n ≤ eventCount l → high ≤ first
+      → walked map limit none none (expanded (run (eventAt l) first n)) xs ≡ Followed.No
+
+-- production p has its events from `at` on, and those before it begin before `low`
+pub record Skipped (l : List ℕ) (low at p : ℕ) : Type 0 where
+  pub most : p ≤ productionCount l
+  pub place : at ≡ eventsFrom l p
+  pub over : (q : ℕ) → q < p → eventsFrom l q < low
 
 -- ---- The types of events that a table has
 

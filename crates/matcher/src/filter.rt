@@ -1,14 +1,13 @@
 // A quick test of the events of a table, by two words of each: most productions are ruled out by it.
 ghost use mathlib.Core.Path.{_≡_};
-ghost use mathlib.Core.Bool.{true, false};
-ghost use Prim.Native.Nat.{_+_, _≤_, _<_};
+ghost use mathlib.Core.Bool.{true, false, cond};
+ghost use Prim.Native.Nat.{_+_, _-_, _≤_, _<_};
 ghost use lib.ListN.{length};
 ghost use Rattle.records.specs.Ranges.{EventRanges};
-ghost use Rattle.words.specs.Runs.{every};
 ghost use Rattle.keyboard.specs.Maps.{mapNumbers};
 ghost use Rattle.tables.specs.Reading.{eventCount};
 ghost use Rattle.tables.specs.Whole.{whole};
-ghost use Rattle.matcher.specs.Filter.{other, soughtOf, codeSeems, detailSeems, seems, suits, begins, cannotBegin};
+ghost use Rattle.matcher.specs.Filter.{other, soughtOf, codeSeems, detailSeems, seems, suits, begins, codeBegins, Within};
 use crate::reader;
 use model::events::Event;
 
@@ -113,32 +112,110 @@ fn begins(table: &[u8], one: Sought, short: bool, two: Sought, i: usize) -> bool
     seems(table, i, one) & suits(table, i, one) & (short | counted | seems(table, i + 1, two))
 }
 
-// Whether no event may, for a stretch of one event. No early exit, so that the loop is compiled to vector instructions.
-pub fn none_alone(table: &[u8], one: Sought) -> bool
+// Bounds of where the events stand with which a production may begin: none before `low`, and none from `high` on. They serve
+// for speed alone and may be wide; for one such event they are exact, and where there is none both are 0.
+pub struct Reach {
+    pub low: u16,
+    pub high: u16,
+}
+
+// A number where a test holds, and 0 where it does not.
+fn only(own: u16, holds: bool) -> u16
+    ensures { λ r. ⌜ r ≡ cond holds own 0 ⌝ }
+{
+    if holds { own } else { 0 }
+}
+
+// What event i adds to the upper bound, and to the lower one, which is counted back from 256.
+fn end_at(i: usize, holds: bool) -> u16
+    requires { ⌜ i < 256 ⌝ }
+    ensures { λ r. ⌜ r ≡ cond holds (i + 1) 0 ⌝ }
+{
+    let k = i as u16;
+    only(k + 1, holds)
+}
+
+fn turned_at(i: usize, holds: bool) -> u16
+    requires { ⌜ i < 256 ⌝ }
+    ensures { λ r. ⌜ r ≡ cond holds (256 - i) 0 ⌝ }
+{
+    let k = i as u16;
+    only(256 - k, holds)
+}
+
+// The lower bound, by the numbers 256 - i of the events i, joined by `|`. What is joined is at least each of its parts.
+fn low_of(turned: u16) -> u16
+    ensures { λ r. ⌜ r ≤ 256 - turned ⌝ }
+{
+    if turned == 0 {
+        return 0;
+    }
+    if 256 < turned {
+        return 0;
+    }
+    256 - turned
+}
+
+// Where the events stand that may begin a production for a stretch of one event. No early exit, and no number above 16 bits,
+// so that the loop is compiled to vector instructions.
+pub fn reach_alone(table: &[u8], one: Sought) -> Reach
     requires { ⌜ (whole (now table) ≡ true) × (one .code ≤ 34) × (one .state < 8192) ⌝ }
-    ensures { λ r. ⌜ r ≡ every (cannotBegin (now (table .entry)) one true one) 0 (eventCount (now (table .entry))) ⌝ }
+    ensures { λ r. ⌜ Within (begins (now (table .entry)) one true one) (eventCount (now (table .entry))) (r .low) (r .high) ⌝ }
 {
     let n = tables::read::event_count(table);
-    let mut none = true;
+    let mut high: u16 = 0;
+    let mut turned: u16 = 0;
     let mut i: usize = 0;
     while i < n {
-        none = none & !begins(table, one, true, one, i);
+        let holds = begins(table, one, true, one, i);
+        high = high | end_at(i, holds);
+        turned = turned | turned_at(i, holds);
         i += 1;
     }
-    none
+    Reach {
+        low: low_of(turned),
+        high,
+    }
 }
 
 // The same for a longer stretch.
-pub fn none_paired(table: &[u8], one: Sought, two: Sought) -> bool
+pub fn reach_paired(table: &[u8], one: Sought, two: Sought) -> Reach
     requires { ⌜ (whole (now table) ≡ true) × (one .code ≤ 34) × (one .state < 8192) × (two .code ≤ 34) ⌝ }
-    ensures { λ r. ⌜ r ≡ every (cannotBegin (now (table .entry)) one false two) 0 (eventCount (now (table .entry))) ⌝ }
+    ensures { λ r. ⌜ Within (begins (now (table .entry)) one false two) (eventCount (now (table .entry))) (r .low) (r .high) ⌝ }
 {
     let n = tables::read::event_count(table);
-    let mut none = true;
+    let mut high: u16 = 0;
+    let mut turned: u16 = 0;
     let mut i: usize = 0;
     while i < n {
-        none = none & !begins(table, one, false, two, i);
+        let holds = begins(table, one, false, two, i);
+        high = high | end_at(i, holds);
+        turned = turned | turned_at(i, holds);
         i += 1;
     }
-    none
+    Reach {
+        low: low_of(turned),
+        high,
+    }
+}
+
+// The same by the code alone: of events other than keys few stand in a table, and one word of each is read.
+pub fn reach_of_code(table: &[u8], one: Sought) -> Reach
+    requires { ⌜ (whole (now table) ≡ true) × (one .code ≤ 34) ⌝ }
+    ensures { λ r. ⌜ Within (codeBegins (now (table .entry)) one) (eventCount (now (table .entry))) (r .low) (r .high) ⌝ }
+{
+    let n = tables::read::event_count(table);
+    let mut high: u16 = 0;
+    let mut turned: u16 = 0;
+    let mut i: usize = 0;
+    while i < n {
+        let holds = code_seems(words::word_at(table, reader::CODES + i), one);
+        high = high | end_at(i, holds);
+        turned = turned | turned_at(i, holds);
+        i += 1;
+    }
+    Reach {
+        low: low_of(turned),
+        high,
+    }
 }

@@ -1,6 +1,6 @@
 // Events against the elements of productions.
 ghost use mathlib.Core.Path.{_≡_};
-ghost use mathlib.Core.Bool.{true};
+ghost use mathlib.Core.Bool.{true, cond};
 ghost use mathlib.Core.Option.{none};
 ghost use Prim.Native.Nat.{ℕ, _+_, _-_, _≤_, _<_};
 ghost use lib.ListN.{length, getD, take, drop};
@@ -15,8 +15,9 @@ ghost use Rattle.machine.specs.Kept.{longestEnd};
 ghost use Rattle.keyboard.specs.Maps.{mapNumbers};
 ghost use Rattle.matcher.specs.State.{zeroEvent, slotsOf};
 ghost use Rattle.matcher.specs.Filter.{soughtOf};
-ghost use Rattle.matcher.specs.Walk.{eventMeets, detailAsked, elementOf, fitsAfter, walked, sizeIn, Ready, passed, passedIn, eventHas};
+ghost use Rattle.matcher.specs.Walk.{eventMeets, detailAsked, elementOf, fitsAfter, walked, sizeIn, Ready, Outside, Skipped, passed, passedIn, eventHas};
 use crate::filter;
+use crate::filter::Reach;
 use crate::filter::Sought;
 use crate::reader;
 use crate::state;
@@ -45,6 +46,12 @@ pub enum Passed {
 pub struct Start {
     pub at: usize,
     pub found: Passed,
+}
+
+// A production, and where its events begin.
+pub struct Spot {
+    pub at: usize,
+    pub p: usize,
 }
 
 // Whether an event has the detail that is asked for: of a key, the keysym under the keyboard map.
@@ -173,8 +180,33 @@ fn follow(
     }
 }
 
-// Events from..to against every production, in order. One whose first event does not pass the quick test for the first of
-// them is passed over at once.
+// The first production whose events do not begin before `low`.
+fn skip(table: &[u8], low: usize) -> Spot
+    requires { ⌜ whole (now table) ≡ true ⌝ }
+    ensures { λ r. ⌜ Skipped (now (table .entry)) low (r .at) (r .p) ⌝ }
+{
+    let n = tables::read::production_count(table);
+    let mut at: usize = 0;
+    let mut p: usize = 0;
+    while p < n {
+        if low <= at {
+            return Spot { at, p };
+        }
+        at += tables::read::production_events(table, p);
+        p += 1;
+    }
+    Spot { at, p }
+}
+
+// What a pass has found that found no whole sequence.
+fn ended(seen: bool) -> Passed
+    ensures { λ r. ⌜ r ≡ cond seen Passed.Prefix Passed.No ⌝ }
+{
+    if seen { Passed::Prefix } else { Passed::No }
+}
+
+// Events from..to against the productions within the bounds, in order. One whose first event does not pass the quick test for
+// the first of them is passed over at once.
 fn scan(
     table: &[u8],
     map: &[u8],
@@ -183,15 +215,21 @@ fn scan(
     from: usize,
     to: usize,
     one: Sought,
+    reach: Reach,
 ) -> Passed
-    requires { ⌜ Ready (now table) (mapNumbers (now map)) (now events) to × (from < to) × (one ≡ soughtOf (mapNumbers (now map)) (getD (slotsOf (now events)) from zeroEvent)) ⌝ }
+    requires { ⌜ Ready (now table) (mapNumbers (now map)) (now events) to × (from < to) × (one ≡ soughtOf (mapNumbers (now map)) (getD (slotsOf (now events)) from zeroEvent)) × Outside (now table) (mapNumbers (now map)) (drop from (take to (slotsOf (now events)))) (reach .low) (reach .high) ⌝ }
     ensures { λ r. ⌜ r ≡ passed (decode (now (table .entry))) (mapNumbers (now (map .entry))) limit (drop from (take to (slotsOf (now (events .entry))))) ⌝ }
 {
     let n = tables::read::production_count(table);
+    let spot = skip(table, reach.low as usize);
+    let high = reach.high as usize;
     let mut seen = false;
-    let mut at: usize = 0;
-    let mut p: usize = 0;
+    let mut at = spot.at;
+    let mut p = spot.p;
     while p < n {
+        if high <= at {
+            return ended(seen);
+        }
         let size = tables::read::production_events(table, p);
         if filter::seems_one(table, at, one) {
             match follow(table, map, limit, at, size, events, from, to) {
@@ -213,30 +251,33 @@ fn scan(
             p += 1;
         }
     }
-    if seen { Passed::Prefix } else { Passed::No }
+    ended(seen)
 }
 
-// The same. Most productions are on keys, and most keys have none: where the quick test finds no event of the table with
-// which a production could begin for a key event, no production is looked at.
+// Where the productions begin that may have the stretch as a prefix. Most productions are on keys, and most keys have none: for
+// a key event every event of the table is tried at once, by its code, its detail and its modifiers.
+fn reach_of(table: &[u8], map: &[u8], events: &[u8], from: usize, to: usize, one: Sought) -> Reach
+    requires { ⌜ Ready (now table) (mapNumbers (now map)) (now events) to × (from < to) × (one ≡ soughtOf (mapNumbers (now map)) (getD (slotsOf (now events)) from zeroEvent)) ⌝ }
+    ensures { λ r. ⌜ Outside (now (table .entry)) (mapNumbers (now (map .entry))) (drop from (take to (slotsOf (now (events .entry))))) (r .low) (r .high) ⌝ }
+{
+    if 3 < one.code {
+        return filter::reach_of_code(table, one);
+    }
+    if from + 1 == to {
+        return filter::reach_alone(table, one);
+    }
+    let two = filter::sought_of(map, state::event_at(events, from + 1));
+    filter::reach_paired(table, one, two)
+}
+
+// Events from..to against every production, in order.
 pub fn pass(table: &[u8], map: &[u8], limit: u32, events: &[u8], from: usize, to: usize) -> Passed
     requires { ⌜ Ready (now table) (mapNumbers (now map)) (now events) to × (from < to) ⌝ }
     ensures { λ r. ⌜ r ≡ passed (decode (now (table .entry))) (mapNumbers (now (map .entry))) limit (drop from (take to (slotsOf (now (events .entry))))) ⌝ }
 {
     let one = filter::sought_of(map, state::event_at(events, from));
-    if 3 < one.code {
-        return scan(table, map, limit, events, from, to, one);
-    }
-    if from + 1 == to {
-        if filter::none_alone(table, one) {
-            return Passed::No;
-        }
-        return scan(table, map, limit, events, from, to, one);
-    }
-    let two = filter::sought_of(map, state::event_at(events, from + 1));
-    if filter::none_paired(table, one, two) {
-        return Passed::No;
-    }
-    scan(table, map, limit, events, from, to, one)
+    let reach = reach_of(table, map, events, from, to, one);
+    scan(table, map, limit, events, from, to, one, reach)
 }
 
 // The smallest start from `from` on at which the events up to `to` read as a prefix, or `to`.
