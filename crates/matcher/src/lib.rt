@@ -10,6 +10,7 @@ ghost use Rattle.matcher.specs.Match.{tooShort, refusedWith, matchAnswer
 mod filter;
 mod moves;
 mod reader;
+mod slots;
 pub mod state;
 mod walk;
 

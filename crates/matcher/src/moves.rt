@@ -13,7 +13,7 @@ ghost use Rattle.matcher.specs.Walk.{Ready};
 ghost use Rattle.matcher.specs.Moves.{answerWith, restarted};
 ghost use Rattle.matcher.specs.Match.{answerOf};
 use crate::Answer;
-use crate::state;
+use crate::slots;
 use crate::state::State;
 use crate::walk;
 use crate::walk::Passed;
@@ -28,7 +28,7 @@ fn shifted(events: &[u8], from: usize, to: usize) -> [u8; 200]
     let mut slots = [0u8; 200];
     let mut i = from;
     while i < to {
-        state::put_event(&mut slots, i - from, state::event_at(events, i));
+        slots::put_event(&mut slots, i - from, slots::event_at(events, i));
         i += 1;
     }
     slots
@@ -104,7 +104,7 @@ pub fn heard(table: &[u8], map: &[u8], limit: u32, state: State, x: Event) -> An
     let kept = state.kept;
     let selected = state.selected;
     let mut events = state.events;
-    state::put_event(&mut events, kept, x);
+    slots::put_event(&mut events, kept, x);
     let to = kept + 1;
     match walk::pass(table, map, limit, &events, 0, to) {
         Passed::No => restart(table, map, limit, &events, selected, to),

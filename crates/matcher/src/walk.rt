@@ -20,7 +20,7 @@ use crate::filter;
 use crate::filter::Reach;
 use crate::filter::Sought;
 use crate::reader;
-use crate::state;
+use crate::slots;
 use model::events::Event;
 
 // How a stretch of events and the sequence of a production compare.
@@ -160,9 +160,9 @@ fn follow(
         if last <= i {
             return Followed::No;
         }
-        let x = state::event_at(events, j);
+        let x = slots::event_at(events, j);
         let at = two_before(j, k);
-        let b = state::event_at(events, at);
+        let b = slots::event_at(events, at);
         if !element_fits(table, map, limit, i, k, b.time, x) {
             return Followed::No;
         }
@@ -266,7 +266,7 @@ fn reach_of(table: &[u8], map: &[u8], events: &[u8], from: usize, to: usize, one
     if from + 1 == to {
         return filter::reach_alone(table, one);
     }
-    let two = filter::sought_of(map, state::event_at(events, from + 1));
+    let two = filter::sought_of(map, slots::event_at(events, from + 1));
     filter::reach_paired(table, one, two)
 }
 
@@ -275,7 +275,7 @@ pub fn pass(table: &[u8], map: &[u8], limit: u32, events: &[u8], from: usize, to
     requires { ⌜ Ready (now table) (mapNumbers (now map)) (now events) to × (from < to) ⌝ }
     ensures { λ r. ⌜ r ≡ passed (decode (now (table .entry))) (mapNumbers (now (map .entry))) limit (drop from (take to (slotsOf (now (events .entry))))) ⌝ }
 {
-    let one = filter::sought_of(map, state::event_at(events, from));
+    let one = filter::sought_of(map, slots::event_at(events, from));
     let reach = reach_of(table, map, events, from, to, one);
     scan(table, map, limit, events, from, to, one, reach)
 }

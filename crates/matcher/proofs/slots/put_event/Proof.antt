@@ -1,12 +1,12 @@
--- `matcher::state::put_event` meets its contract.
+-- `matcher::slots::put_event` meets its contract.
 use native.Mathlib.Omega.{arith}
 use mathlib.Core.Path.{refl}
 use denote.Ref.{now}
 use lib.ListN.{length-set}
 use Rattle.matcher.proofs.SlotLaws.{stores}
 use borrow.Author.Needs.{needs}
-use Rattle.matcher.proofs.state.put_event.Statement.{statement}
-use Rattle.matcher.proofs.state.put_event.Tie as tie
+use Rattle.matcher.proofs.slots.put_event.Statement.{statement}
+use Rattle.matcher.proofs.slots.put_event.Tie as tie
 
 mul-at : tie.Need-mul-at
 mul-at c = search needs

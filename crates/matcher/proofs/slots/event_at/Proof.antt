@@ -1,9 +1,9 @@
--- `matcher::state::event_at` meets its contract.
+-- `matcher::slots::event_at` meets its contract.
 use denote.Ref.{now}
 use Rattle.matcher.proofs.SlotLaws.{event-at}
 use borrow.Author.Needs.{needs}
-use Rattle.matcher.proofs.state.event_at.Statement.{statement}
-use Rattle.matcher.proofs.state.event_at.Tie as tie
+use Rattle.matcher.proofs.slots.event_at.Statement.{statement}
+use Rattle.matcher.proofs.slots.event_at.Tie as tie
 
 mul-at : tie.Need-mul-at
 mul-at c = search needs
