@@ -1,6 +1,7 @@
 //! The bytes of tables and of matcher states, written and read by docs/LAYOUT.md and not by the
 //! proved code.
 
+use crate::counts;
 use crate::limits;
 use crate::modifiers::{ModifierTest, ALL};
 use crate::names;
@@ -88,7 +89,7 @@ impl Used {
 
 /// The bytes of a table.
 pub fn encode(table: &Table) -> Vec<u8> {
-    let mut words = Words(vec![0; TABLE_WORDS]);
+    let mut words = Written(vec![0; TABLE_WORDS]);
     let used = Used::of(table);
     let header = [
         table.directive as usize,
@@ -126,7 +127,7 @@ pub fn encode(table: &Table) -> Vec<u8> {
     words.0.iter().flat_map(|word| word.to_le_bytes()).collect()
 }
 
-fn put_event(words: &mut Words, at: usize, spec: &EventSpec) {
+fn put_event(words: &mut Written, at: usize, spec: &EventSpec) {
     let flag = |there: bool, flag: u16| if there { flag } else { 0 };
     let flags = flag(spec.test.colon, COLON)
         | flag(spec.test.clause, CLAUSE)
@@ -141,75 +142,29 @@ fn put_event(words: &mut Words, at: usize, spec: &EventSpec) {
     words.put(DETAIL_HIGH, at, (detail >> 16) as usize);
 }
 
-struct Words(Vec<u16>);
+struct Written(Vec<u16>);
 
-impl Words {
+impl Written {
     fn put(&mut self, section: Section, at: usize, value: usize) {
         assert!(at < section.words, "{at} in {section:?}");
         self.0[section.first + at] = u16::try_from(value).expect("a word has 16 bits");
     }
+}
 
-    fn get(&self, section: Section, at: usize) -> usize {
-        usize::from(self.0[section.first + at])
-    }
-
-    /// "Its used words come first, and the rest are 0."
-    fn rest_is_zero(&self, section: Section, used: usize) -> bool {
-        let words = &self.0[section.first..section.first + section.words];
-        words[used..].iter().all(|&word| word == 0)
-    }
+/// Whether bytes are a whole table. It reads them where they stand and needs no memory of its own.
+pub fn is_whole(bytes: &[u8]) -> bool {
+    Reader::new(bytes).is_some_and(|reader| reader.entries_are_whole().is_some())
 }
 
 /// The table that bytes are, if they are whole. Bytes past a table are not read.
 pub fn decode(bytes: &[u8]) -> Option<Table> {
-    let bytes = &bytes[..TABLE_BYTES];
-    let words = Words(
-        bytes
-            .chunks(2)
-            .map(|pair| u16::from_le_bytes([pair[0], pair[1]]))
-            .collect(),
-    );
-    let header = |at| words.get(HEADER, at);
-    let used = Used {
-        productions: within(header(PRODUCTIONS), 0, limits::PRODUCTIONS)?,
-        events: within(header(EVENTS), 0, limits::EVENTS)?,
-        calls: within(header(CALLS), 0, limits::CALLS)?,
-        parameters: within(header(PARAMETERS), 0, limits::PARAMETERS)?,
-    };
-    let directive = match header(DIRECTIVE) {
-        0 => Directive::Replace,
-        1 => Directive::Override,
-        2 => Directive::Augment,
-        _ => return None,
-    };
-    let merged = within(header(MERGED), 0, 1)? == 1;
-    let second_most = if merged { limits::TEXT_BYTES } else { 0 };
-    let text_lengths = [
-        within(header(FIRST_TEXT), 0, limits::TEXT_BYTES)?,
-        within(header(SECOND_TEXT), 0, second_most)?,
-    ];
-    let unused_are_zero = [
-        (OF_PRODUCTIONS.as_slice(), used.productions),
-        (&OF_EVENTS, used.events),
-        (&OF_CALLS, used.calls),
-        (&OF_PARAMETERS, used.parameters),
-    ]
-    .into_iter()
-    .all(|(all, used)| all.iter().all(|&section| words.rest_is_zero(section, used)));
-    require(unused_are_zero)?;
-    let reader = Reader {
-        words: &words,
-        used,
-        merged,
-        text_lengths,
-    };
-    let productions = reader.productions()?;
-    require(!limits::passed(&productions))?;
+    let reader = Reader::new(bytes)?;
+    reader.entries_are_whole()?;
     Some(Table {
-        directive,
-        merged,
-        text_lengths,
-        productions,
+        directive: reader.directive,
+        merged: reader.merged,
+        text_lengths: reader.text_lengths,
+        productions: reader.productions()?,
     })
 }
 
@@ -221,44 +176,125 @@ fn within(value: usize, low: usize, high: usize) -> Option<usize> {
     (low..=high).contains(&value).then_some(value)
 }
 
-/// Reads the entries of a table whose counts are within the sections.
-struct Reader<'w> {
-    words: &'w Words,
+/// The words of lent bytes.
+#[derive(Clone, Copy)]
+struct Words<'b>(&'b [u8]);
+
+impl Words<'_> {
+    fn get(self, section: Section, at: usize) -> usize {
+        let at = 2 * (section.first + at);
+        usize::from(u16::from_le_bytes([self.0[at], self.0[at + 1]]))
+    }
+
+    /// "Its used words come first, and the rest are 0."
+    fn rest_is_zero(self, section: Section, used: usize) -> bool {
+        let rest = 2 * (section.first + used)..2 * (section.first + section.words);
+        self.0[rest].iter().fold(0, |joined, byte| joined | byte) == 0
+    }
+}
+
+/// A table whose header is in range, with counts within the sections, and whose unused words
+/// are 0.
+struct Reader<'b> {
+    words: Words<'b>,
     used: Used,
+    directive: Directive,
     merged: bool,
     text_lengths: [usize; 2],
 }
 
 impl Reader<'_> {
-    /// "A production's events, a production's calls and a call's parameters follow each other
-    /// without a gap", and their counts add up to the header's.
-    fn productions(&self) -> Option<Vec<Production>> {
-        let (mut event, mut call, mut parameter) = (0, 0, 0);
-        let mut productions = Vec::new();
+    fn new(bytes: &[u8]) -> Option<Reader<'_>> {
+        let words = Words(&bytes[..TABLE_BYTES]);
+        let header = |at| words.get(HEADER, at);
+        let used = Used {
+            productions: within(header(PRODUCTIONS), 0, limits::PRODUCTIONS)?,
+            events: within(header(EVENTS), 0, limits::EVENTS)?,
+            calls: within(header(CALLS), 0, limits::CALLS)?,
+            parameters: within(header(PARAMETERS), 0, limits::PARAMETERS)?,
+        };
+        let directive = match header(DIRECTIVE) {
+            0 => Directive::Replace,
+            1 => Directive::Override,
+            2 => Directive::Augment,
+            _ => return None,
+        };
+        let merged = within(header(MERGED), 0, 1)? == 1;
+        let second_most = if merged { limits::TEXT_BYTES } else { 0 };
+        let text_lengths = [
+            within(header(FIRST_TEXT), 0, limits::TEXT_BYTES)?,
+            within(header(SECOND_TEXT), 0, second_most)?,
+        ];
+        let unused_are_zero = [
+            (OF_PRODUCTIONS.as_slice(), used.productions),
+            (&OF_EVENTS, used.events),
+            (&OF_CALLS, used.calls),
+            (&OF_PARAMETERS, used.parameters),
+        ]
+        .into_iter()
+        .all(|(all, used)| all.iter().all(|&section| words.rest_is_zero(section, used)));
+        require(unused_are_zero)?;
+        Some(Reader {
+            words,
+            used,
+            directive,
+            merged,
+            text_lengths,
+        })
+    }
+
+    /// Whether every entry is in range and within the limits, and the counts add up to the
+    /// header's.
+    fn entries_are_whole(&self) -> Option<()> {
+        let (mut event, mut call, mut parameter, mut expanded) = (0, 0, 0, 0);
         for at in 0..self.used.productions {
             let events = self.words.get(PRODUCTION_EVENTS, at);
             let calls = self.words.get(PRODUCTION_CALLS, at);
             require(events >= 1 && event + events <= self.used.events)?;
-            require(call + calls <= self.used.calls)?;
-            let events_read: Option<Vec<EventSpec>> =
-                (event..event + events).map(|at| self.event(at)).collect();
-            let mut calls_read = Vec::new();
+            require(calls <= limits::CALLS_IN_PRODUCTION && call + calls <= self.used.calls)?;
+            let mut length = 0;
+            for at in event..event + events {
+                length += counts::expanded_length(&self.event(at)?);
+            }
+            require(length <= limits::EVENTS_IN_PRODUCTION)?;
             for at in call..call + calls {
+                parameter += self.call_parameters(at, parameter)?;
+            }
+            event += events;
+            call += calls;
+            expanded += length;
+        }
+        require(expanded <= limits::EVENTS)?;
+        require(
+            event == self.used.events
+                && call == self.used.calls
+                && parameter == self.used.parameters,
+        )
+    }
+
+    /// "A production's events, a production's calls and a call's parameters follow each other
+    /// without a gap."
+    fn productions(&self) -> Option<Vec<Production>> {
+        let (mut event, mut call, mut parameter) = (0, 0, 0);
+        let mut productions = Vec::new();
+        for at in 0..self.used.productions {
+            let events = event..event + self.words.get(PRODUCTION_EVENTS, at);
+            let calls = call..call + self.words.get(PRODUCTION_CALLS, at);
+            event = events.end;
+            call = calls.end;
+            let events: Option<Vec<EventSpec>> = events.map(|at| self.event(at)).collect();
+            let mut calls_read = Vec::new();
+            for at in calls {
                 let read = self.call(at, parameter)?;
                 parameter += read.parameters.len();
                 calls_read.push(read);
             }
-            event += events;
-            call += calls;
             productions.push(Production {
-                events: events_read?,
+                events: events?,
                 calls: calls_read,
             });
         }
-        let all_read = event == self.used.events
-            && call == self.used.calls
-            && parameter == self.used.parameters;
-        all_read.then_some(productions)
+        Some(productions)
     }
 
     fn event(&self, at: usize) -> Option<EventSpec> {
@@ -289,31 +325,43 @@ impl Reader<'_> {
         })
     }
 
-    fn call(&self, at: usize, first_parameter: usize) -> Option<Call> {
-        let text = within(self.words.get(MARK, at), 0, usize::from(self.merged))?;
-        let length = self.text_lengths[text];
-        let span = |starts, lengths, at| {
-            let span = Span {
-                start: self.words.get(starts, at),
-                length: self.words.get(lengths, at),
-            };
-            (span.start + span.length <= length).then_some(span)
-        };
-        let name = span(NAME_START, NAME_LENGTH, at)?;
-        let count = within(
-            self.words.get(CALL_PARAMETERS, at),
-            0,
-            limits::PARAMETERS_IN_CALL,
-        )?;
+    /// How many parameters a call has, if it and they are in range.
+    fn call_parameters(&self, at: usize, first_parameter: usize) -> Option<usize> {
+        let text = self.text(at)?;
+        self.span(text, NAME_START, NAME_LENGTH, at)?;
+        let count = self.words.get(CALL_PARAMETERS, at);
+        require(count <= limits::PARAMETERS_IN_CALL)?;
         require(first_parameter + count <= self.used.parameters)?;
+        for at in first_parameter..first_parameter + count {
+            self.span(text, PARAMETER_START, PARAMETER_LENGTH, at)?;
+        }
+        Some(count)
+    }
+
+    fn call(&self, at: usize, first_parameter: usize) -> Option<Call> {
+        let text = self.text(at)?;
+        let count = self.words.get(CALL_PARAMETERS, at);
         let parameters: Option<Vec<Span>> = (first_parameter..first_parameter + count)
-            .map(|at| span(PARAMETER_START, PARAMETER_LENGTH, at))
+            .map(|at| self.span(text, PARAMETER_START, PARAMETER_LENGTH, at))
             .collect();
         Some(Call {
             text,
-            name,
+            name: self.span(text, NAME_START, NAME_LENGTH, at)?,
             parameters: parameters?,
         })
+    }
+
+    /// Which text a call is of.
+    fn text(&self, at: usize) -> Option<usize> {
+        within(self.words.get(MARK, at), 0, usize::from(self.merged))
+    }
+
+    fn span(&self, text: usize, starts: Section, lengths: Section, at: usize) -> Option<Span> {
+        let span = Span {
+            start: self.words.get(starts, at),
+            length: self.words.get(lengths, at),
+        };
+        (span.start + span.length <= self.text_lengths[text]).then_some(span)
     }
 }
 

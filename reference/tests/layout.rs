@@ -21,6 +21,7 @@ fn tables_read_back() {
         let mut bytes = layout::encode(table);
         assert_eq!(bytes.len(), TABLE_BYTES);
         bytes.push(7);
+        assert!(layout::is_whole(&bytes));
         assert_eq!(layout::decode(&bytes).as_ref(), Some(table));
     }
 }
@@ -32,7 +33,9 @@ fn ranges_of_a_table() {
     let whole = |word: usize, value: u16| {
         let mut bytes = bytes.clone();
         bytes[2 * word..2 * word + 2].copy_from_slice(&value.to_le_bytes());
-        layout::decode(&bytes).is_some()
+        let whole = layout::is_whole(&bytes);
+        assert_eq!(layout::decode(&bytes).is_some(), whole);
+        whole
     };
     // The directive, and the mark of a merged table.
     assert!(whole(0, 2) && !whole(0, 3) && whole(1, 1) && !whole(1, 2));
