@@ -7,7 +7,7 @@ use lib.Dec.{leb, ltb, eqb}
 use lib.Bits.{bitOr}
 use borrow.Author.Tests.{leb-true, leb-false, le-leb, ltb-true, ltb-false, eqb-true, eq-eqb, ne-eqb}
 use Rattle.words.proofs.Bools.{and-left, and-right, and-both, same-test}
-use Rattle.words.proofs.Zeros.{or-zero, or-below}
+use Rattle.words.proofs.Zeros.{or-zero, or-zero-three, or-below}
 use Rattle.tables.specs.Checks.{eventWordsOk}
 
 -- ---- Events
@@ -35,12 +35,9 @@ count-one a b d n = go (leb 1 n) refl
     go true q = rw (one q)
     go false q = rw (q, and-false a)
 
-three-zero : (g lo hi : ℕ) → eqb (bitOr (bitOr g lo) hi) 0 ≡ (eqb g 0 && eqb lo 0 && eqb hi 0)
-three-zero g lo hi = or-zero (bitOr g lo) hi ∙ ap (λ (t : Bool). t && eqb hi 0) (or-zero g lo)
-
 -- flags below 8, of which 4 says that a detail is given, and a detail that is 0 where none is
 detail-test : (f lo hi : ℕ) → (eqb (f / 4) 1 || eqb (bitOr (bitOr (f / 4) lo) hi) 0) ≡ (ltb f 8 && (leb 4 f || (eqb lo 0 && eqb hi 0)))
-detail-test f lo hi = rw (three-zero (f / 4) lo hi) (go (ltb f 8) refl (leb 4 f) refl)
+detail-test f lo hi = rw (or-zero-three (f / 4) lo hi) (go (ltb f 8) refl (leb 4 f) refl)
   where
     go : (a : Bool) → ltb f 8 ≡ a → (b : Bool) → leb 4 f ≡ b
         → (eqb (f / 4) 1 || (eqb (f / 4) 0 && eqb lo 0 && eqb hi 0)) ≡ (ltb f 8 && (leb 4 f || (eqb lo 0 && eqb hi 0)))

@@ -1,5 +1,5 @@
-// Which bytes are a whole table. Each loop goes over the used words of a few sections, or over the unused words of four, with
-// no early exit and in numbers of 16 bits, so that it is compiled to vector instructions that take eight words at a time.
+// Which bytes are a whole table. Each loop goes over the used words of a few sections, or over the unused words of three or four,
+// with no early exit and in numbers of 16 bits, so that it is compiled to vector instructions that take eight words at a time.
 // The sums that the header gives are taken in the same loops, of each word its lower byte: a word in range has no more.
 ghost use mathlib.Core.Path.{_≡_};
 ghost use mathlib.Core.Bool.{true, _&&_};
@@ -65,12 +65,11 @@ fn tests_rest(l: &[u8], n: usize) -> bool
     words::zero_in_four(l, 136 + n, 392 + n, 648 + n, 904 + n, 256 - n)
 }
 
-// The third section is given twice: there are three.
 fn details_rest(l: &[u8], n: usize) -> bool
     requires { ⌜ (5904 ≤ length (now l)) × (n ≤ 256) ⌝ }
     ensures { λ r. ⌜ r ≡ detailsRest (now (l .entry)) n ⌝ }
 {
-    words::zero_in_four(l, 1160 + n, 1416 + n, 1672 + n, 1672 + n, 256 - n)
+    words::zero_in_three(l, 1160 + n, 1416 + n, 1672 + n, 256 - n)
 }
 
 fn calls_rest(l: &[u8], n: usize) -> bool

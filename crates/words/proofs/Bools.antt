@@ -38,14 +38,6 @@ module _ (a b : Bool) where
   pub or-neither : a ≡ false → b ≡ false → (a || b) ≡ false
   or-neither p q = rw (p, q)
 
-  pub and-again : (a && b && b) ≡ (a && b)
-  and-again = go a b refl refl
-    where
-      go : (x y : Bool) → a ≡ x → b ≡ y → (a && b && b) ≡ (a && b)
-      go true true p q = rw (p, q)
-      go true false p q = rw (p, q)
-      go false y p q = rw p
-
   -- two tests that pass in the same cases
   pub same-test : (a ≡ true → b ≡ true) → (b ≡ true → a ≡ true) → a ≡ b
   same-test f g = go a b refl refl

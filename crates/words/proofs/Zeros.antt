@@ -1,15 +1,15 @@
 -- Words that are 0, tested together.
-use Prim.Native.Nat.{ℕ, _+_, _-_, _^_, _≤_, _<_}
+use Prim.Native.Nat.{ℕ, zero, suc, _+_, _-_, _^_, _≤_, _<_}
 use native.Mathlib.Omega.{arith}
 use native.Mathlib.Nat.{zero-add}
 use mathlib.Core.Path.{_≡_, refl, sym, ap, _∙_}
-use mathlib.Core.List.{List, [], _∷_}
-use mathlib.Core.Bool.{Bool, true, false, _&&_}
+use mathlib.Core.List.{List}
+use mathlib.Core.Bool.{Bool, true, false, _&&_, and-assoc, and-self}
 use lib.Dec.{eqb, ltb}
 use lib.Bits.{bitOr, bitAnd, or-add-and, or-lt, and-le-l, and-le-r}
 use borrow.Author.Tests.{eqb-true, eq-eqb, lt-ltb, ltb-true, ltb-false}
-use Rattle.words.specs.Runs.{every, isZero, fourZero}
-use Rattle.words.proofs.Bools.{and-left, and-right, and-both, same-test, AllTrue, chain-parts, chain-all}
+use Rattle.words.specs.Runs.{every, isZero, threeZero, fourZero}
+use Rattle.words.proofs.Bools.{and-left, and-right, and-both, same-test}
 use Rattle.words.proofs.RunLaws.{every-at, every-all, every-shift}
 
 -- numbers joined are 0 where both are
@@ -48,15 +48,21 @@ or-below k x y = same-test (ltb (bitOr x y) (2 ^ k)) (ltb x (2 ^ k) && ltb y (2 
         lt-ltb (bitOr x y) (2 ^ k)
         (or-lt k x y (ltb-true x (2 ^ k) (and-left (ltb x (2 ^ k)) (ltb y (2 ^ k)) e)) (ltb-true y (2 ^ k) (and-right (ltb x (2 ^ k)) (ltb y (2 ^ k)) e)))
 
+-- so for three
+pub or-zero-three : (x y z : ℕ) → eqb (bitOr (bitOr x y) z) 0 ≡ (eqb x 0 && eqb y 0 && eqb z 0)
+or-zero-three x y z = or-zero (bitOr x y) z ∙ ap (λ (t : Bool). t && eqb z 0) (or-zero x y)
+
+-- and for four
+or-zero-four : (w x y z : ℕ) → eqb (bitOr (bitOr (bitOr w x) y) z) 0 ≡ (eqb w 0 && eqb x 0 && eqb y 0 && eqb z 0)
+or-zero-four w x y z = or-zero (bitOr (bitOr w x) y) z ∙ ap (λ (t : Bool). t && eqb z 0) (or-zero-three w x y)
+
+-- what is joined to the numbers joined before
+pub three-joined : (j x y z : ℕ) → eqb (bitOr j (bitOr (bitOr x y) z)) 0 ≡ (eqb j 0 && (eqb x 0 && eqb y 0 && eqb z 0))
+three-joined j x y z = or-zero j (bitOr (bitOr x y) z) ∙ ap (λ (t : Bool). eqb j 0 && t) (or-zero-three x y z)
+
 pub four-joined : (j w x y z : ℕ)
     → eqb (bitOr j (bitOr (bitOr (bitOr w x) y) z)) 0 ≡ (eqb j 0 && (eqb w 0 && eqb x 0 && eqb y 0 && eqb z 0))
-four-joined j w x y z =
-    or-zero j (bitOr (bitOr (bitOr w x) y) z)
-    ∙ ap (λ (t : Bool). eqb j 0 && t)
-    (
-    or-zero (bitOr (bitOr w x) y) z
-    ∙ ap (λ (t : Bool). t && eqb z 0) (or-zero (bitOr w x) y ∙ ap (λ (t : Bool). t && eqb y 0) (or-zero w x))
-    )
+four-joined j w x y z = or-zero j (bitOr (bitOr (bitOr w x) y) z) ∙ ap (λ (t : Bool). eqb j 0 && t) (or-zero-four w x y z)
 
 -- a test over a run, made over two runs of one length that cover it
 module _ (test : ℕ → Bool) (s n h : ℕ) (short : h ≤ n) (long : n ≤ h + h) where
@@ -84,88 +90,86 @@ module _ (test : ℕ → Bool) (s n h : ℕ) (short : h ≤ n) (long : n ≤ h +
   pub every-halves : (every test s h && every test (s + (n - h)) h) ≡ every test s n
   every-halves = same-test (every test s h && every test (s + (n - h)) h) (every test s n) halves-there halves-back
 
--- ---- Four places
+-- ---- Two, three and four places, each by one place more
 
-abbrev fourTests : List ℕ → (b c d : ℕ) → ℕ → List Bool
-fourTests l b c d i = isZero l (b + i) ∷ isZero l (c + i) ∷ isZero l (d + i) ∷ []
+and-across : (p q r s : Bool) → ((p && q) && (r && s)) ≡ ((p && r) && (q && s))
+and-across true true r s = refl
+and-across true false true s = refl
+and-across true false false s = refl
+and-across false q r s = refl
 
-module _ (l : List ℕ) (a b c d n : ℕ) where
-  four-there : every (fourZero l a b c d) 0 n ≡ true
-      → (every (isZero l) a n && every (isZero l) b n && every (isZero l) c n && every (isZero l) d n) ≡ true
-  unfolding fourZero
-  four-there e =
-      chain-all (every (isZero l) a n) (every (isZero l) b n ∷ every (isZero l) c n ∷ every (isZero l) d n ∷ []) (
-        every-all (isZero l) a n (λ i q. parts i q .0),
-        (
-          every-all (isZero l) b n (λ i q. parts i q .1 .0),
-          (every-all (isZero l) c n (λ i q. parts i q .1 .1 .0), (every-all (isZero l) d n (λ i q. parts i q .1 .1 .1 .0), tt)),
-        ),
-      )
-    where
-      parts : (i : ℕ) → i < n → AllTrue (isZero l (a + i) ∷ fourTests l b c d i)
-      parts i q = chain-parts (isZero l (a + i)) (fourTests l b c d i) (rw zero-add at (every-at (fourZero l a b c d) 0 n i e q))
+-- two tests over a run
+every-both : (f g : ℕ → Bool) (s n : ℕ) → every (λ i. f i && g i) s n ≡ (every f s n && every g s n)
+unfolding every
+every-both f g s zero = refl
+every-both f g s (suc n) =
+    ap (λ (t : Bool). t && (f (s + n) && g (s + n))) (every-both f g s n)
+    ∙ and-across (every f s n) (every g s n) (f (s + n)) (g (s + n))
 
-  four-back : (every (isZero l) a n && every (isZero l) b n && every (isZero l) c n && every (isZero l) d n) ≡ true
-      → every (fourZero l a b c d) 0 n ≡ true
-  unfolding fourZero
-  four-back e = every-all (fourZero l a b c d) 0 n (λ i q. rw zero-add (at i q))
-    where
-      all : AllTrue (every (isZero l) a n ∷ every (isZero l) b n ∷ every (isZero l) c n ∷ every (isZero l) d n ∷ [])
-      all = chain-parts (every (isZero l) a n) (every (isZero l) b n ∷ every (isZero l) c n ∷ every (isZero l) d n ∷ []) e
+-- n words from a place on are 0
+abbrev zeroFrom : List ℕ → (a n : ℕ) → Bool
+zeroFrom l a n = every (isZero l) a n
 
-      at : (i : ℕ) → i < n → fourZero l a b c d i ≡ true
-      at i q =
-          chain-all (isZero l (a + i)) (fourTests l b c d i) (
-            every-at (isZero l) a n i (all .0) q,
-            (every-at (isZero l) b n i (all .1 .0) q, (every-at (isZero l) c n i (all .1 .1 .0) q, (every-at (isZero l) d n i (all .1 .1 .1 .0) q, tt))),
-          )
+module _ (l : List ℕ) (n : ℕ) where
+  from-place : (a : ℕ) → every (λ i. isZero l (a + i)) 0 n ≡ zeroFrom l a n
+  from-place a = every-shift (λ i. isZero l (a + i)) (isZero l) 0 a n (λ i q. rw zero-add)
 
-  pub every-four : every (fourZero l a b c d) 0 n
-      ≡ (every (isZero l) a n && every (isZero l) b n && every (isZero l) c n && every (isZero l) d n)
-  every-four =
-      same-test (every (fourZero l a b c d) 0 n)
-      (every (isZero l) a n && every (isZero l) b n && every (isZero l) c n && every (isZero l) d n)
-      four-there four-back
+  one-more : (f : ℕ → Bool) (r : Bool) (a : ℕ) → every f 0 n ≡ r → every (λ i. f i && isZero l (a + i)) 0 n ≡ (r && zeroFrom l a n)
+  one-more f r a e = every-both f (λ i. isZero l (a + i)) 0 n ∙ rw (e, from-place a)
 
-  -- four places that are moved on by as many words
-  moved : (s h : ℕ) → every (fourZero l (a + s) (b + s) (c + s) (d + s)) 0 h ≡ every (fourZero l a b c d) (0 + s) h
-  unfolding fourZero
-  moved s h = every-shift (fourZero l (a + s) (b + s) (c + s) (d + s)) (fourZero l a b c d) 0 (0 + s) h (λ i q. there i)
-    where
-      there : (i : ℕ) → fourZero l (a + s) (b + s) (c + s) (d + s) (0 + i) ≡ fourZero l a b c d (0 + s + i)
-      there i =
-          let p : a + s + (0 + i) ≡ a + (0 + s + i) = omega arith in
-          let q : b + s + (0 + i) ≡ b + (0 + s + i) = omega arith in
-          let t : c + s + (0 + i) ≡ c + (0 + s + i) = omega arith in
-          let u : d + s + (0 + i) ≡ d + (0 + s + i) = omega arith in
-          rw (p, q, t, u)
+  every-two : (a b : ℕ) → every (λ i. isZero l (a + i) && isZero l (b + i)) 0 n ≡ (zeroFrom l a n && zeroFrom l b n)
+  every-two a b = one-more (λ i. isZero l (a + i)) (zeroFrom l a n) b (from-place a)
 
-  pub four-halves : (h : ℕ) → h ≤ n → n ≤ h + h
+  pub every-three : (a b c : ℕ) → every (threeZero l a b c) 0 n ≡ (zeroFrom l a n && zeroFrom l b n && zeroFrom l c n)
+  unfolding threeZero
+  every-three a b c = one-more (λ i. isZero l (a + i) && isZero l (b + i)) (zeroFrom l a n && zeroFrom l b n) c (every-two a b)
+
+  pub every-four : (a b c d : ℕ) → every (fourZero l a b c d) 0 n ≡ (zeroFrom l a n && zeroFrom l b n && zeroFrom l c n && zeroFrom l d n)
+  unfolding threeZero fourZero
+  every-four a b c d = one-more (threeZero l a b c) (zeroFrom l a n && zeroFrom l b n && zeroFrom l c n) d (every-three a b c)
+
+-- the same in two runs of one length that cover the n
+module _ (l : List ℕ) (n h : ℕ) (short : h ≤ n) (long : n ≤ h + h) where
+  halves-more : (p q r : Bool) (a : ℕ) → (p && q) ≡ r → ((p && zeroFrom l a h) && (q && zeroFrom l (a + (n - h)) h)) ≡ (r && zeroFrom l a n)
+  halves-more p q r a e =
+      and-across p (zeroFrom l a h) q (zeroFrom l (a + (n - h)) h) ∙ rw (e, every-halves (isZero l) a n h short long)
+
+  two-parts : (a b : ℕ)
+      → ((zeroFrom l a h && zeroFrom l b h) && (zeroFrom l (a + (n - h)) h && zeroFrom l (b + (n - h)) h))
+      ≡ (zeroFrom l a n && zeroFrom l b n)
+  two-parts a b = halves-more (zeroFrom l a h) (zeroFrom l (a + (n - h)) h) (zeroFrom l a n) b (every-halves (isZero l) a n h short long)
+
+  three-parts : (a b c : ℕ)
+      → ((zeroFrom l a h && zeroFrom l b h && zeroFrom l c h) && (zeroFrom l (a + (n - h)) h && zeroFrom l (b + (n - h)) h && zeroFrom l (c + (n - h)) h))
+      ≡ (zeroFrom l a n && zeroFrom l b n && zeroFrom l c n)
+  three-parts a b c =
+      halves-more (zeroFrom l a h && zeroFrom l b h) (zeroFrom l (a + (n - h)) h && zeroFrom l (b + (n - h)) h) (zeroFrom l a n && zeroFrom l b n) c
+      (two-parts a b)
+
+  pub three-halves : (a b c : ℕ)
+      → (every (threeZero l a b c) 0 h && every (threeZero l (a + (n - h)) (b + (n - h)) (c + (n - h))) 0 h)
+      ≡ (zeroFrom l a n && zeroFrom l b n && zeroFrom l c n)
+  three-halves a b c = rw (every-three l h a b c, every-three l h (a + (n - h)) (b + (n - h)) (c + (n - h))) (three-parts a b c)
+
+  pub four-halves : (a b c d : ℕ)
       → (every (fourZero l a b c d) 0 h && every (fourZero l (a + (n - h)) (b + (n - h)) (c + (n - h)) (d + (n - h))) 0 h)
-      ≡ (every (isZero l) a n && every (isZero l) b n && every (isZero l) c n && every (isZero l) d n)
-  four-halves h short long =
-      rw (moved (n - h) h) (every-halves (fourZero l a b c d) 0 n h short long ∙ every-four)
+      ≡ (zeroFrom l a n && zeroFrom l b n && zeroFrom l c n && zeroFrom l d n)
+  four-halves a b c d =
+      rw (every-four l h a b c d, every-four l h (a + (n - h)) (b + (n - h)) (c + (n - h)) (d + (n - h)))
+      (halves-more (zeroFrom l a h && zeroFrom l b h && zeroFrom l c h)
+      (zeroFrom l (a + (n - h)) h && zeroFrom l (b + (n - h)) h && zeroFrom l (c + (n - h)) h)
+      (zeroFrom l a n && zeroFrom l b n && zeroFrom l c n) d (three-parts a b c))
 
--- ---- Two places
+  -- both runs of two places at once
+  pub two-halves : (a b : ℕ) → every (fourZero l a b (a + (n - h)) (b + (n - h))) 0 h ≡ (zeroFrom l a n && zeroFrom l b n)
+  two-halves a b =
+      every-four l h a b (a + (n - h)) (b + (n - h))
+      ∙ and-assoc (zeroFrom l a h && zeroFrom l b h) (zeroFrom l (a + (n - h)) h) (zeroFrom l (b + (n - h)) h)
+      ∙ two-parts a b
 
-and-twice : (p q : Bool) → (p && q && p && q) ≡ (p && q)
-and-twice true true = refl
-and-twice true false = refl
-and-twice false q = refl
-
-and-middle : (p q r s : Bool) → (p && q && r && s) ≡ ((p && r) && (q && s))
-and-middle true true r s = refl
-and-middle true false true s = refl
-and-middle true false false s = refl
-and-middle false q r s = refl
-
-module _ (l : List ℕ) (a b n : ℕ) where
-  pub two-same : every (fourZero l a b a b) 0 n ≡ (every (isZero l) a n && every (isZero l) b n)
-  two-same = every-four l a b a b n ∙ and-twice (every (isZero l) a n) (every (isZero l) b n)
-
-  pub two-halves : (h : ℕ) → h ≤ n → n ≤ h + h
-      → every (fourZero l a b (a + (n - h)) (b + (n - h))) 0 h ≡ (every (isZero l) a n && every (isZero l) b n)
-  two-halves h short long =
-      every-four l a b (a + (n - h)) (b + (n - h)) h
-      ∙ and-middle (every (isZero l) a h) (every (isZero l) b h) (every (isZero l) (a + (n - h)) h) (every (isZero l) (b + (n - h)) h)
-      ∙ rw (every-halves (isZero l) a n h short long, every-halves (isZero l) b n h short long)
+-- two places, each given twice
+pub two-same : (l : List ℕ) (n a b : ℕ) → every (fourZero l a b a b) 0 n ≡ (zeroFrom l a n && zeroFrom l b n)
+two-same l n a b =
+    every-four l n a b a b
+    ∙ and-assoc (zeroFrom l a n && zeroFrom l b n) (zeroFrom l a n) (zeroFrom l b n)
+    ∙ and-self (zeroFrom l a n && zeroFrom l b n)

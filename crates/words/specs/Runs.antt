@@ -25,6 +25,10 @@ module _ {A : Type 0} where
 unfoldable pub isZero : List ℕ → ℕ → Bool
 isZero l k = eqb (wordAt l k) 0
 
+-- the words at a number past three places are 0
+unfoldable pub threeZero : List ℕ → (a b c : ℕ) → ℕ → Bool
+threeZero l a b c i = isZero l (a + i) && isZero l (b + i) && isZero l (c + i)
+
 -- the words at a number past four places are 0
 unfoldable pub fourZero : List ℕ → (a b c d : ℕ) → ℕ → Bool
 fourZero l a b c d i = isZero l (a + i) && isZero l (b + i) && isZero l (c + i) && isZero l (d + i)

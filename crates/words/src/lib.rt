@@ -4,7 +4,7 @@ ghost use mathlib.Core.Bool.{_&&_};
 ghost use Prim.Native.Nat.{_+_, _*_, _≤_, _<_};
 ghost use lib.ListN.{length};
 ghost use Rattle.words.specs.Words.{wordAt, putWord, cleared};
-ghost use Rattle.words.specs.Runs.{every, total, isZero, fourZero};
+ghost use Rattle.words.specs.Runs.{every, total, isZero, threeZero, fourZero};
 
 fn wide(b: u8) -> u16
     ensures { λ r. ⌜ (r ≡ b) × (r < 256) ⌝ }
@@ -57,6 +57,20 @@ fn four_zero(l: &[u8], a: usize, b: usize, c: usize, d: usize, n: usize) -> bool
     joined == 0
 }
 
+// The same of three places.
+fn three_zero(l: &[u8], a: usize, b: usize, c: usize, n: usize) -> bool
+    requires { ⌜ (2 * (a + n) ≤ length (now l)) × (2 * (b + n) ≤ length (now l)) × (2 * (c + n) ≤ length (now l)) ⌝ }
+    ensures { λ r. ⌜ r ≡ every (threeZero (now (l .entry)) a b c) 0 n ⌝ }
+{
+    let mut joined: u16 = 0;
+    let mut i: usize = 0;
+    while i < n {
+        joined = joined | (word_at(l, a + i) | word_at(l, b + i) | word_at(l, c + i));
+        i += 1;
+    }
+    joined == 0
+}
+
 // A multiple of 16 that is at least half of n and at most n. Two runs of so many words, one from the first of n
 // words on and one up to the last, cover all n, and neither leaves words over when sixteen are taken at a time.
 pub fn half(n: usize) -> usize
@@ -77,6 +91,19 @@ pub fn zero_in_four(l: &[u8], a: usize, b: usize, c: usize, d: usize, n: usize) 
     let h = half(n);
     let s = n - h;
     four_zero(l, a, b, c, d, h) & four_zero(l, a + s, b + s, c + s, d + s, h)
+}
+
+// Whether n words from each of three places on are 0.
+pub fn zero_in_three(l: &[u8], a: usize, b: usize, c: usize, n: usize) -> bool
+    requires { ⌜ ((2 * (a + n) ≤ length (now l)) × (2 * (b + n) ≤ length (now l)) × (2 * (c + n) ≤ length (now l))) × (n < 65536) ⌝ }
+    ensures { λ r. ⌜ r ≡ (every (isZero (now (l .entry))) a n && every (isZero (now (l .entry))) b n && every (isZero (now (l .entry))) c n) ⌝ }
+{
+    if n < 16 {
+        return three_zero(l, a, b, c, n);
+    }
+    let h = half(n);
+    let s = n - h;
+    three_zero(l, a, b, c, h) & three_zero(l, a + s, b + s, c + s, h)
 }
 
 // Whether n words from each of two places on are 0.

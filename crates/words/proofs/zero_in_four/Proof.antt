@@ -9,7 +9,7 @@ four-zero-requires : tie.Need-four-zero-requires
 four-zero-requires c κs = search needs
 
 returns : tie.Need-returns
-returns c = c .four-zero .ensures ∙ every-four (c .before .before .before .args .l .now) (c .before .before .before .args .a) (c .before .before .before .args .b) (c .before .before .before .args .c) (c .before .before .before .args .d) (c .before .before .before .args .n)
+returns c = c .four-zero .ensures ∙ every-four (c .before .before .before .args .l .now) (c .before .before .before .args .n) (c .before .before .before .args .a) (c .before .before .before .args .b) (c .before .before .before .args .c) (c .before .before .before .args .d)
 
 half-requires : tie.Need-half-requires
 half-requires c κs = search needs
@@ -36,7 +36,7 @@ four-zero-requires-3 : tie.Need-four-zero-requires-3
 four-zero-requires-3 c κs = search needs
 
 returns-2 : tie.Need-returns-2
-returns-2 c = rw (c .before .four-zero2 .ensures, c .four-zero3 .ensures) (four-halves (c .before .before .before .before .before .args .l .now) (c .before .before .before .before .before .args .a) (c .before .before .before .before .before .args .b) (c .before .before .before .before .before .args .c) (c .before .before .before .before .before .args .d) (c .before .before .before .before .before .args .n) (c .before .before .half .result) (c .before .before .half .ensures .0) (c .before .before .half .ensures .1))
+returns-2 c = rw (c .before .four-zero2 .ensures, c .four-zero3 .ensures) (four-halves (c .before .before .before .before .before .args .l .now) (c .before .before .before .before .before .args .n) (c .before .before .half .result) (c .before .before .half .ensures .0) (c .before .before .half .ensures .1) (c .before .before .before .before .before .args .a) (c .before .before .before .before .before .args .b) (c .before .before .before .before .before .args .c) (c .before .before .before .before .before .args .d))
 
 pub zero-in-four-spec : {M : Type 1} → statement M
 zero-in-four-spec =

@@ -9,7 +9,7 @@ four-zero-requires : tie.Need-four-zero-requires
 four-zero-requires c κs = search needs
 
 returns : tie.Need-returns
-returns c = c .four-zero .ensures ∙ two-same (c .before .before .before .args .l .now) (c .before .before .before .args .a) (c .before .before .before .args .b) (c .before .before .before .args .n)
+returns c = c .four-zero .ensures ∙ two-same (c .before .before .before .args .l .now) (c .before .before .before .args .n) (c .before .before .before .args .a) (c .before .before .before .args .b)
 
 half-requires : tie.Need-half-requires
 half-requires c κs = search needs
@@ -27,7 +27,7 @@ four-zero-requires-2 : tie.Need-four-zero-requires-2
 four-zero-requires-2 c κs = search needs
 
 returns-2 : tie.Need-returns-2
-returns-2 c = c .four-zero2 .ensures ∙ two-halves (c .before .before .before .before .args .l .now) (c .before .before .before .before .args .a) (c .before .before .before .before .args .b) (c .before .before .before .before .args .n) (c .before .half .result) (c .before .half .ensures .0) (c .before .half .ensures .1)
+returns-2 c = c .four-zero2 .ensures ∙ two-halves (c .before .before .before .before .args .l .now) (c .before .before .before .before .args .n) (c .before .half .result) (c .before .half .ensures .0) (c .before .half .ensures .1) (c .before .before .before .before .args .a) (c .before .before .before .before .args .b)
 
 pub zero-in-two-spec : {M : Type 1} → statement M
 zero-in-two-spec =
