@@ -1,14 +1,14 @@
 -- Tests of numbers that are joined before they are tested.
-use Prim.Native.Nat.{ℕ, _+_, _-_, _/_, _≤_}
+use Prim.Native.Nat.{ℕ, _+_, _-_, _/_, _≤_, _<_}
 use native.Mathlib.Omega.{arith}
 use mathlib.Core.Path.{_≡_, refl, sym, ap, _∙_}
-use mathlib.Core.Bool.{Bool, true, false, _&&_, _||_, and-true, and-false}
+use mathlib.Core.Bool.{Bool, true, false, cond, _&&_, _||_, and-true, and-false}
 use lib.Dec.{leb, ltb, eqb}
 use lib.Bits.{bitOr}
-use borrow.Author.Tests.{leb-true, leb-false, le-leb, ltb-true, ltb-false, eqb-true, eq-eqb, ne-eqb}
+use borrow.Author.Tests.{leb-true, leb-false, le-leb, lt-leb, ltb-true, ltb-false, eqb-true, eqb-false, eq-eqb, ne-eqb}
 use Rattle.words.proofs.Bools.{and-left, and-right, and-both, same-test}
-use Rattle.words.proofs.Zeros.{or-zero, or-zero-three, or-below}
-use Rattle.tables.specs.Checks.{eventWordsOk}
+use Rattle.words.proofs.Zeros.{or-zero, or-zero-three, or-zero-four, or-below}
+use Rattle.tables.specs.Checks.{eventWordsOk, textOf, callWordsOk}
 
 -- ---- Events
 
@@ -76,11 +76,18 @@ joined-event c n s k f lo hi =
     p : Bool
     p = leb 2 c && leb c 34 && leb 1 n && leb n 9 && (leb n 1 || leb c 5)
 
+-- ---- Bounds: what is above one is joined
+
+pub within-bound : (x most : ℕ) → eqb (x - most) 0 ≡ leb x most
+within-bound x most =
+    same-test (eqb (x - most) 0) (leb x most)
+    (λ e. let z = eqb-true (x - most) 0 e in le-leb x most (omega arith))
+    (λ e. let z = leb-true x most e in eq-eqb (x - most) 0 (omega arith))
+
 -- ---- Spans
 
-pub joined-span : (s n t : ℕ) → eqb (bitOr (s - t) (n - (t - s))) 0 ≡ leb (s + n) t
-joined-span s n t =
-    or-zero (s - t) (n - (t - s)) ∙ same-test (eqb (s - t) 0 && eqb (n - (t - s)) 0) (leb (s + n) t) there back
+pub span-within : (s n t : ℕ) → (eqb (s - t) 0 && eqb (n - (t - s)) 0) ≡ leb (s + n) t
+span-within s n t = same-test (eqb (s - t) 0 && eqb (n - (t - s)) 0) (leb (s + n) t) there back
   where
     there : (eqb (s - t) 0 && eqb (n - (t - s)) 0) ≡ true → leb (s + n) t ≡ true
     there e =
@@ -92,3 +99,37 @@ joined-span s n t =
     back e =
         let a = leb-true (s + n) t e in
         and-both (eqb (s - t) 0) (eqb (n - (t - s)) 0) (eq-eqb (s - t) 0 (omega arith)) (eq-eqb (n - (t - s)) 0 (omega arith))
+
+pub joined-span : (s n t : ℕ) → eqb (bitOr (s - t) (n - (t - s))) 0 ≡ leb (s + n) t
+joined-span s n t = or-zero (s - t) (n - (t - s)) ∙ span-within s n t
+
+-- ---- Calls of a table that is not merged
+
+-- the mark has to be 0, and the name is in the first text
+plain-call : (m s n k f g : ℕ) → (eqb m 0 && leb k 8 && leb (s + n) f) ≡ callWordsOk m s n k 0 (textOf m f g)
+unfolding callWordsOk textOf
+plain-call m s n k f g = go (eqb m 0) refl
+  where
+    go : (t : Bool) → eqb m 0 ≡ t → (eqb m 0 && leb k 8 && leb (s + n) f) ≡ (leb m 0 && leb k 8 && leb (s + n) (cond (eqb m 1) g f))
+    go true q = rw (eqb-true m 0 q)
+    go false q = let ne = eqb-false m 0 q in rw (q, lt-leb m 0 (above ne))
+      where
+        above : (m ≡ 0 → ⊥) → 0 < m
+        above ne = omega arith
+
+marks-and-faults : (j m b k x y : Bool) → ((j && m) && (b && k && x && y)) ≡ ((j && b) && (m && k && (x && y)))
+marks-and-faults false m b k x y = refl
+marks-and-faults true false false k x y = refl
+marks-and-faults true false true k x y = refl
+marks-and-faults true true false k x y = refl
+marks-and-faults true true true false x y = refl
+marks-and-faults true true true true x y = refl
+
+-- one more call, joined to the marks j and the faults b of those before it
+pub joined-call : (j b m s n k f g : ℕ)
+    → (eqb (bitOr j m) 0 && eqb (bitOr (bitOr (bitOr b (k - 8)) (s - f)) (n - (f - s))) 0)
+    ≡ ((eqb j 0 && eqb b 0) && callWordsOk m s n k 0 (textOf m f g))
+joined-call j b m s n k f g =
+    rw (or-zero j m, or-zero-four b (k - 8) (s - f) (n - (f - s)), within-bound k 8)
+    (marks-and-faults (eqb j 0) (eqb m 0) (eqb b 0) (leb k 8) (eqb (s - f) 0) (eqb (n - (f - s)) 0)
+    ∙ rw (span-within s n f, plain-call m s n k f g))

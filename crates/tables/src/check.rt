@@ -192,8 +192,8 @@ fn call_ok(mark: u16, start: u16, len: u16, parameters: u16, merged: u16, text: 
     (mark <= merged) & (parameters <= 8) & span_ok(start, len, text)
 }
 
-// The calls, and the sum of their numbers of parameters.
-fn calls_tally(l: &[u8], n: usize) -> Tally
+// The calls of any table, and the sum of their numbers of parameters.
+fn marked_calls(l: &[u8], n: usize) -> Tally
     requires { ⌜ (5904 ≤ length (now l)) × (n ≤ 128) ⌝ }
     ensures { λ r. ⌜ (r .ok ≡ every (callOk (now (l .entry))) 0 n) × (r .total ≡ total (lowAt (now (l .entry))) callParametersAt n) ⌝ }
 {
@@ -222,6 +222,46 @@ fn calls_tally(l: &[u8], n: usize) -> Tally
         ok: ok,
         total: parameters,
     }
+}
+
+// The same for a table that is not merged. There every mark has to be 0 and every name is in the first text, so that none is
+// chosen: the marks, and what is above a bound, are joined and tested once.
+fn plain_calls(l: &[u8], n: usize) -> Tally
+    requires { ⌜ ((5904 ≤ length (now l)) × (n ≤ 128)) × (wordAt (now l) 1 ≡ 0) ⌝ }
+    ensures { λ r. ⌜ (r .ok ≡ every (callOk (now (l .entry))) 0 n) × (r .total ≡ total (lowAt (now (l .entry))) callParametersAt n) ⌝ }
+{
+    let first = words::word_at(l, 2);
+    let mut marks: u16 = 0;
+    let mut faults: u16 = 0;
+    let mut parameters: u16 = 0;
+    let mut i: usize = 0;
+    while i < n {
+        let count = words::word_at(l, 2312 + i);
+        let start = words::word_at(l, 2056 + i);
+        let len = words::word_at(l, 2184 + i);
+        marks = marks | words::word_at(l, 1928 + i);
+        faults = faults
+            | excess(count, 8)
+            | excess(start, first)
+            | excess(len, excess(first, start));
+        parameters += count % 256;
+        i += 1;
+    }
+    Tally {
+        ok: (marks | faults) == 0,
+        total: parameters,
+    }
+}
+
+// The calls, and the sum of their numbers of parameters.
+fn calls_tally(l: &[u8], n: usize) -> Tally
+    requires { ⌜ (5904 ≤ length (now l)) × (n ≤ 128) ⌝ }
+    ensures { λ r. ⌜ (r .ok ≡ every (callOk (now (l .entry))) 0 n) × (r .total ≡ total (lowAt (now (l .entry))) callParametersAt n) ⌝ }
+{
+    if words::word_at(l, 1) == 0 {
+        return plain_calls(l, n);
+    }
+    marked_calls(l, n)
 }
 
 // Whether n parameters, from one on, are parts of a text of this length.

@@ -53,7 +53,7 @@ pub or-zero-three : (x y z : ℕ) → eqb (bitOr (bitOr x y) z) 0 ≡ (eqb x 0 &
 or-zero-three x y z = or-zero (bitOr x y) z ∙ ap (λ (t : Bool). t && eqb z 0) (or-zero x y)
 
 -- and for four
-or-zero-four : (w x y z : ℕ) → eqb (bitOr (bitOr (bitOr w x) y) z) 0 ≡ (eqb w 0 && eqb x 0 && eqb y 0 && eqb z 0)
+pub or-zero-four : (w x y z : ℕ) → eqb (bitOr (bitOr (bitOr w x) y) z) 0 ≡ (eqb w 0 && eqb x 0 && eqb y 0 && eqb z 0)
 or-zero-four w x y z = or-zero (bitOr (bitOr w x) y) z ∙ ap (λ (t : Bool). t && eqb z 0) (or-zero-three w x y)
 
 -- what is joined to the numbers joined before

@@ -1,4 +1,4 @@
--- `tables::check::calls_tally` meets its contract.
+-- `tables::check::marked_calls` meets its contract.
 use borrow.Author.Needs.{needs}
 use native.Mathlib.Omega.{arith}
 use native.Mathlib.Nat.{zero-add}
@@ -10,8 +10,8 @@ use Rattle.words.specs.Runs.{every, total}
 use Rattle.words.proofs.RunLaws.{every-more, total-more}
 use Rattle.tables.specs.Layout.{callParametersAt}
 use Rattle.tables.specs.Checks.{callOk, lowAt}
-use Rattle.tables.proofs.check.calls_tally.Statement.{statement}
-use Rattle.tables.proofs.check.calls_tally.Tie as tie
+use Rattle.tables.proofs.check.marked_calls.Statement.{statement}
+use Rattle.tables.proofs.check.marked_calls.Tie as tie
 
 abbrev Inv-loop : tie.InvT-loop
 Inv-loop l n merged first second ok₀ parameters₀ i₀ ok parameters i =
@@ -93,8 +93,8 @@ returns c =
     let e : c .before .loop .i ≡ c .before .before .before .before .before .before .args .n = omega arith in
     (c .before .loop .inv .3 ∙ rw e, c .before .loop .inv .5 ∙ rw e)
 
-pub calls-tally-spec : {M : Type 1} → statement M
-calls-tally-spec =
+pub marked-calls-spec : {M : Type 1} → statement M
+marked-calls-spec =
     tie.close
     (tie.spec
     Inv-loop
