@@ -2,7 +2,7 @@
 use Prim.Native.Nat.{ℕ, _+_, _-_, _/_, _≤_, _<_}
 use native.Mathlib.Omega.{arith}
 use mathlib.Core.Path.{_≡_, refl, sym, ap, _∙_}
-use mathlib.Core.Bool.{Bool, true, false, cond, _&&_, _||_, and-true, and-false}
+use mathlib.Core.Bool.{Bool, true, false, cond, _&&_, _||_, and-true, and-false, and-comm}
 use lib.Dec.{leb, ltb, eqb}
 use lib.Bits.{bitOr}
 use borrow.Author.Tests.{leb-true, leb-false, le-leb, lt-leb, ltb-true, ltb-false, eqb-true, eqb-false, eq-eqb, ne-eqb}
@@ -133,3 +133,17 @@ joined-call j b m s n k f g =
     rw (or-zero j m, or-zero-four b (k - 8) (s - f) (n - (f - s)), within-bound k 8)
     (marks-and-faults (eqb j 0) (eqb m 0) (eqb b 0) (leb k 8) (eqb (s - f) 0) (eqb (n - (f - s)) 0)
     ∙ rw (span-within s n f, plain-call m s n k f g))
+
+-- ---- Productions
+
+-- one more production, joined to the faults b of those before it
+pub joined-production : (b own made most : ℕ)
+    → eqb (bitOr (bitOr (bitOr b (1 - own)) (own - most)) (made - 8)) 0 ≡ (eqb b 0 && (leb 1 own && leb made 8 && leb own most))
+joined-production b own made most =
+    or-zero-four b (1 - own) (own - most) (made - 8)
+    ∙ rw (within-bound 1 own, within-bound own most, within-bound made 8) (in-order (eqb b 0) (leb 1 own) (leb own most) (leb made 8))
+  where
+    in-order : (b l m k : Bool) → (b && l && m && k) ≡ (b && (l && k && m))
+    in-order false l m k = refl
+    in-order true false m k = refl
+    in-order true true m k = and-comm m k

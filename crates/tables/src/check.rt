@@ -423,24 +423,25 @@ pub struct Sums {
     pub calls: u16,
 }
 
+// How far each number is past its bounds is joined and tested once.
 fn productions_tally(l: &[u8], n: usize, most: u16) -> Sums
     requires { ⌜ (5904 ≤ length (now l)) × (n ≤ 64) ⌝ }
     ensures { λ r. ⌜ (r .ok ≡ every (plainOk (now (l .entry)) most) 0 n) × (r .events ≡ total (lowAt (now (l .entry))) productionEventsAt n) × (r .calls ≡ total (lowAt (now (l .entry))) productionCallsAt n) ⌝ }
 {
-    let mut ok = true;
+    let mut faults: u16 = 0;
     let mut events: u16 = 0;
     let mut calls: u16 = 0;
     let mut p: usize = 0;
     while p < n {
         let own = words::word_at(l, 8 + p);
         let made = words::word_at(l, 72 + p);
-        ok = ok & ((1 <= own) & (made <= 8) & (own <= most));
+        faults = faults | excess(1, own) | excess(own, most) | excess(made, 8);
         events += own % 256;
         calls += made % 256;
         p += 1;
     }
     Sums {
-        ok: ok,
+        ok: faults == 0,
         events: events,
         calls: calls,
     }

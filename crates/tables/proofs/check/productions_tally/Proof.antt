@@ -3,27 +3,29 @@ use borrow.Author.Needs.{needs}
 use native.Mathlib.Omega.{arith}
 use native.Mathlib.Nat.{zero-add}
 use Prim.Native.Nat.{_+_, _-_, _*_, _≤_}
-use mathlib.Core.Path.{_≡_, refl, sym, _∙_}
+use mathlib.Core.Path.{_≡_, refl, _∙_}
+use lib.Dec.{eqb}
 use lib.ListN.{length}
 use Rattle.words.specs.Words.{wordAt}
 use Rattle.words.specs.Runs.{every, total}
 use Rattle.words.proofs.RunLaws.{every-more, total-more}
 use Rattle.tables.specs.Layout.{productionEventsAt, productionCallsAt}
 use Rattle.tables.specs.Checks.{plainOk, lowAt}
+use Rattle.tables.proofs.Joined.{joined-production}
 use Rattle.tables.proofs.check.productions_tally.Statement.{statement}
 use Rattle.tables.proofs.check.productions_tally.Tie as tie
 
 abbrev Inv-loop : tie.InvT-loop
-Inv-loop l n most ok₀ events₀ calls₀ p₀ ok events calls p =
+Inv-loop l n most faults₀ events₀ calls₀ p₀ faults events calls p =
     (p ≤ n)
     × ((5904 ≤ length l) × (n ≤ 64))
-    × (ok ≡ every (plainOk l most) 0 p)
+    × (eqb faults 0 ≡ every (plainOk l most) 0 p)
     × ((events ≤ 255 * p) × (calls ≤ 255 * p))
     × (events ≡ total (lowAt l) productionEventsAt p)
     × (calls ≡ total (lowAt l) productionCallsAt p)
 
 abbrev μ-loop : tie.MeasureT-loop
-μ-loop l n most ok₀ events₀ calls₀ p₀ ok events calls p = n - p
+μ-loop l n most faults₀ events₀ calls₀ p₀ faults events calls p = n - p
 
 loop-holds : tie.Need-loop-holds Inv-loop μ-loop
 unfolding every total
@@ -40,6 +42,15 @@ add-word-at-2 c = search needs
 
 word-at-requires-2 : tie.Need-word-at-requires-2 Inv-loop μ-loop
 word-at-requires-2 c κs = search needs
+
+excess-requires : tie.Need-excess-requires Inv-loop μ-loop
+excess-requires c κs = search needs
+
+excess-requires-2 : tie.Need-excess-requires-2 Inv-loop μ-loop
+excess-requires-2 c κs = search needs
+
+excess-requires-3 : tie.Need-excess-requires-3 Inv-loop μ-loop
+excess-requires-3 c κs = search needs
 
 add-events : tie.Need-add-events Inv-loop μ-loop
 add-events c = search needs
@@ -58,10 +69,12 @@ unfolding plainOk lowAt
 loop-again c = (
   search needs,
   (search needs, search needs),
-  rw (every-more, zero-add, c .before .word-at .ensures, c .word-at2 .ensures, c .before .before .before .loop .inv .2),
+  rw (c .before .before .excess .ensures, c .before .excess2 .ensures, c .excess3 .ensures)
+      (joined-production (c .before .before .before .before .before .before .loop .faults) (c .before .before .before .before .word-at .result) (c .before .before .before .word-at2 .result) (c .before .before .before .before .before .before .before .before .args .most)
+      ∙ rw (every-more, zero-add, c .before .before .before .before .word-at .ensures, c .before .before .before .word-at2 .ensures, c .before .before .before .before .before .before .loop .inv .2)),
   (search needs, search needs),
-  rw (total-more, ← c .before .before .before .loop .inv .4, c .before .word-at .ensures),
-  rw (total-more, ← c .before .before .before .loop .inv .5, c .word-at2 .ensures),
+  rw (total-more, ← c .before .before .before .before .before .before .loop .inv .4, c .before .before .before .before .word-at .ensures),
+  rw (total-more, ← c .before .before .before .before .before .before .loop .inv .5, c .before .before .before .word-at2 .ensures),
 )
 
 returns : tie.Need-returns Inv-loop μ-loop
@@ -80,6 +93,9 @@ productions-tally-spec =
     word-at-requires
     add-word-at-2
     word-at-requires-2
+    excess-requires
+    excess-requires-2
+    excess-requires-3
     add-events
     add-calls
     add-p
