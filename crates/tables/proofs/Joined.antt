@@ -2,7 +2,7 @@
 use Prim.Native.Nat.{ℕ, _+_, _-_, _/_, _≤_, _<_}
 use native.Mathlib.Omega.{arith}
 use mathlib.Core.Path.{_≡_, refl, sym, ap, _∙_}
-use mathlib.Core.Bool.{Bool, true, false, cond, _&&_, _||_, and-true, and-false, and-comm}
+use mathlib.Core.Bool.{Bool, true, false, cond, _&&_, _||_, and-true, and-false, and-comm, and-assoc}
 use lib.Dec.{leb, ltb, eqb}
 use lib.Bits.{bitOr}
 use borrow.Author.Tests.{leb-true, leb-false, le-leb, lt-leb, ltb-true, ltb-false, eqb-true, eqb-false, eq-eqb, ne-eqb}
@@ -102,6 +102,13 @@ span-within s n t = same-test (eqb (s - t) 0 && eqb (n - (t - s)) 0) (leb (s + n
 
 pub joined-span : (s n t : ℕ) → eqb (bitOr (s - t) (n - (t - s))) 0 ≡ leb (s + n) t
 joined-span s n t = or-zero (s - t) (n - (t - s)) ∙ span-within s n t
+
+-- one more parameter, joined to the faults b of those before it
+pub joined-parameter : (b s n t : ℕ) → eqb (bitOr (bitOr b (s - t)) (n - (t - s))) 0 ≡ (eqb b 0 && leb (s + n) t)
+joined-parameter b s n t =
+    or-zero-three b (s - t) (n - (t - s))
+    ∙ and-assoc (eqb b 0) (eqb (s - t) 0) (eqb (n - (t - s)) 0)
+    ∙ ap (λ (r : Bool). eqb b 0 && r) (span-within s n t)
 
 -- ---- Calls of a table that is not merged
 

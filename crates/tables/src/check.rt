@@ -269,19 +269,16 @@ fn parameters_in(l: &[u8], text: u16, from: usize, n: usize) -> bool
     requires { ⌜ (5904 ≤ length (now l)) × (from + n ≤ 256) ⌝ }
     ensures { λ r. ⌜ r ≡ every (parameterOk (now (l .entry)) text) from n ⌝ }
 {
-    let mut ok = true;
+    let mut faults: u16 = 0;
     let mut i: usize = 0;
     while i < n {
         let at = from + i;
-        ok = ok
-            & span_ok(
-                words::word_at(l, 2440 + at),
-                words::word_at(l, 2696 + at),
-                text,
-            );
+        let start = words::word_at(l, 2440 + at);
+        let len = words::word_at(l, 2696 + at);
+        faults = faults | excess(start, text) | excess(len, excess(text, start));
         i += 1;
     }
-    ok
+    faults == 0
 }
 
 // The same in two runs that cover the n, so that none are left over when sixteen are taken at a time.

@@ -3,18 +3,20 @@ use borrow.Author.Needs.{needs}
 use native.Mathlib.Omega.{arith}
 use Prim.Native.Nat.{_+_, _-_, _≤_}
 use mathlib.Core.Path.{_≡_, refl, _∙_}
+use lib.Dec.{eqb}
 use lib.ListN.{length}
 use Rattle.tables.specs.Checks.{parameterOk}
 use Rattle.words.specs.Runs.{every}
 use Rattle.words.proofs.RunLaws.{every-more}
+use Rattle.tables.proofs.Joined.{joined-parameter}
 use Rattle.tables.proofs.check.parameters_in.Statement.{statement}
 use Rattle.tables.proofs.check.parameters_in.Tie as tie
 
 abbrev Inv-loop : tie.InvT-loop
-Inv-loop l text from n ok₀ i₀ ok i = (i ≤ n) × ((5904 ≤ length l) × (from + n ≤ 256)) × (ok ≡ every (parameterOk l text) from i)
+Inv-loop l text from n faults₀ i₀ faults i = (i ≤ n) × ((5904 ≤ length l) × (from + n ≤ 256)) × (eqb faults 0 ≡ every (parameterOk l text) from i)
 
 abbrev μ-loop : tie.MeasureT-loop
-μ-loop l text from n ok₀ i₀ ok i = n - i
+μ-loop l text from n faults₀ i₀ faults i = n - i
 
 loop-holds : tie.Need-loop-holds Inv-loop μ-loop
 unfolding every
@@ -35,8 +37,14 @@ add-word-at-2 c = search needs
 word-at-requires-2 : tie.Need-word-at-requires-2 Inv-loop μ-loop
 word-at-requires-2 c κs = search needs
 
-span-ok-requires : tie.Need-span-ok-requires Inv-loop μ-loop
-span-ok-requires c κs = search needs
+excess-requires : tie.Need-excess-requires Inv-loop μ-loop
+excess-requires c κs = search needs
+
+excess-requires-2 : tie.Need-excess-requires-2 Inv-loop μ-loop
+excess-requires-2 c κs = search needs
+
+excess-requires-3 : tie.Need-excess-requires-3 Inv-loop μ-loop
+excess-requires-3 c κs = search needs
 
 add-i : tie.Need-add-i Inv-loop μ-loop
 add-i c = search needs
@@ -46,7 +54,13 @@ loop-less c = search needs
 
 loop-again : tie.Need-loop-again Inv-loop μ-loop
 unfolding parameterOk
-loop-again c = (search needs, (search needs, search needs), rw (every-more, c .span-ok .ensures, c .before .before .word-at .ensures, c .before .word-at2 .ensures, c .before .before .before .before .loop .inv .2))
+loop-again c = (
+  search needs,
+  (search needs, search needs),
+  rw (c .before .before .excess .ensures, c .excess3 .ensures, c .before .excess2 .ensures)
+      (joined-parameter (c .before .before .before .before .before .before .loop .faults) (c .before .before .before .before .word-at .result) (c .before .before .before .word-at2 .result) (c .before .before .before .before .before .before .before .before .args .text)
+      ∙ rw (every-more, c .before .before .before .before .word-at .ensures, c .before .before .before .word-at2 .ensures, c .before .before .before .before .before .before .loop .inv .2)),
+)
 
 returns : tie.Need-returns Inv-loop μ-loop
 returns c =
@@ -65,7 +79,9 @@ parameters-in-spec =
     word-at-requires
     add-word-at-2
     word-at-requires-2
-    span-ok-requires
+    excess-requires
+    excess-requires-2
+    excess-requires-3
     add-i
     loop-less
     loop-again
