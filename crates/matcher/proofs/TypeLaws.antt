@@ -2,14 +2,16 @@
 use Prim.Native.Nat.{ℕ, zero, suc, _+_, _-_, _≤_, _<_}
 use native.Mathlib.Omega.{arith}
 use native.Mathlib.Nat.{zero-add}
-use borrow.Author.Tests.{eqb-true, leb-true, leb-false, le-ltb, lt-ltb}
+use native.Mathlib.Numerals.{add-one}
+use borrow.Author.Tests.{eqb-true, eqb-false, eq-eqb, ne-eqb, leb-true, leb-false, le-ltb, lt-ltb}
 use mathlib.Core.Path.{_≡_, refl, sym, ap, ap₂, _∙_}
-use mathlib.Core.Bool.{Bool, true, false, cond, _&&_, _||_, false≢true}
+use mathlib.Core.Bool.{Bool, true, false, cond, not, _&&_, _||_, false≢true, or-false, or-assoc, and-comm}
 use mathlib.Core.List.{List, [], _∷_, _++_}
 use lib.Dec.{eqb, leb, ltb}
 use Rattle.words.specs.Words.{wordAt}
 use Rattle.words.specs.Runs.{run}
 use Rattle.words.proofs.RunLaws.{run-more}
+use Rattle.words.proofs.Bools.{same-test}
 use Rattle.model.specs.Lists.{any}
 use Rattle.model.specs.Tables.{Production}
 use Rattle.model.specs.Counts.{Element, element, isRelease, releasePress, pressRelease, countedPress, countedRelease, elementsAt, elementsOf, expanded, sequence}
@@ -18,27 +20,23 @@ use Rattle.model.specs.declared.events.KeptEvent.{KeptEvent}
 use Rattle.tables.specs.Layout.{productionEventsAt, flat, eventsOf}
 use Rattle.tables.specs.Reading.{productionCount, eventCount, productionEvents, eventsFrom, eventAt, productionAt, decode}
 use Rattle.tables.proofs.Lists.{flat-runs}
-use Rattle.matcher.specs.Walk.{otherCode, eventHas}
+use Rattle.matcher.specs.Walk.{anyBelow, otherCode, eventHas, hasCode, hasEither}
 use Rattle.matcher.proofs.TableFacts.{EntryFacts, TableFacts}
-
-or-false : (a : Bool) → a || false ≡ a
-or-false true = refl
-or-false false = refl
-
-or-assoc : (a b c : Bool) → (a || b) || c ≡ a || (b || c)
-or-assoc true b c = refl
-or-assoc false b c = refl
-
-or-comm : (a b : Bool) → a || b ≡ b || a
-or-comm true true = refl
-or-comm true false = refl
-or-comm false true = refl
-or-comm false false = refl
 
 or-again : (a b : Bool) → a || (b || (a || b)) ≡ a || b
 or-again true b = refl
 or-again false true = refl
 or-again false false = refl
+
+-- ---- A test of the first events
+
+pub below-none : (test : ℕ → Bool) → false ≡ anyBelow test 0
+unfolding anyBelow
+below-none test = refl
+
+pub below-more : (test : ℕ → Bool) (i : ℕ) → anyBelow test (i + 1) ≡ anyBelow test i || test i
+unfolding anyBelow
+below-more test i = rw add-one
 
 module _ {A : Type 0} (test : A → Bool) where
   pub any-append : (xs ys : List A) → any test (xs ++ ys) ≡ any test xs || any test ys
@@ -105,9 +103,9 @@ module _ (code : ℕ) where
           let z : true ≡ false = ap (λ (t : Bool). t || eqb c 5) (sym e) ∙ q in
           absurd (false≢true (sym z))
       go false e =
-          let a : c ≡ 3 → ⊥ = borrow.Author.Tests.eqb-false c 3 e in
+          let a : c ≡ 3 → ⊥ = eqb-false c 3 e in
           let o : eqb c 5 ≡ false = ap (λ (t : Bool). t || eqb c 5) (sym e) ∙ q in
-          let b : c ≡ 5 → ⊥ = borrow.Author.Tests.eqb-false c 5 o in
+          let b : c ≡ 5 → ⊥ = eqb-false c 5 o in
           omega arith
 
   elements-have : (e : KeptEvent) → 2 ≤ e .code → (leb (e .count) 1 || leb (e .code) 5) ≡ true
@@ -132,6 +130,39 @@ module _ (code : ℕ) where
           let h : 1 < e .count = leb-false (e .count) 1 q in
           let m : leb (e .code) 5 ≡ true = ap (λ (t : Bool). t || leb (e .code) 5) (sym q) ∙ few in
           rw (lt-ltb 1 (e .count) h) (kind (isRelease (e .code)) refl h (leb-true (e .code) 5 m))
+
+  -- ---- The tests of words
+
+  -- only keys and buttons are counted
+  plain : (own count : ℕ) → 5 < code → 2 ≤ own → (leb count 1 || leb own 5) ≡ true → eqb own code ≡ eventHas own count code
+  unfolding eventHas
+  plain own count h low few = go (leb count 1) refl
+    where
+      go : (b : Bool) → leb count 1 ≡ b → eqb own code ≡ eqb own code || (ltb 1 count && eqb (otherCode own) code)
+      go true q = rw (le-ltb 1 count (leb-true count 1 q)) (sym (or-false (eqb own code)))
+      go false q =
+          let m : leb own 5 ≡ true = ap (λ (t : Bool). t || leb own 5) (sym q) ∙ few in
+          let k : own ≤ 5 = leb-true own 5 m in
+          let n : otherCode own ≡ code → ⊥ = λ e. omega arith in
+          rw (ne-eqb (otherCode own) code n, and-comm) (sym (or-false (eqb own code)))
+
+  other-back : (own : ℕ) → eqb own (otherCode code) ≡ eqb (otherCode own) code
+  other-back own =
+      same-test (eqb own (otherCode code)) (eqb (otherCode own) code)
+      (λ e. let q : own ≡ otherCode code = eqb-true own (otherCode code) e in eq-eqb (otherCode own) code (omega arith))
+      (λ e. let q : otherCode own ≡ code = eqb-true (otherCode own) code e in eq-eqb own (otherCode code) (omega arith))
+
+  counted-is : (count : ℕ) → 1 ≤ count → not (eqb count 1) ≡ ltb 1 count
+  counted-is count h = go (eqb count 1) refl
+    where
+      go : (b : Bool) → eqb count 1 ≡ b → not b ≡ ltb 1 count
+      go true q = let e : count ≡ 1 = eqb-true count 1 q in sym (le-ltb 1 count (omega arith))
+      go false q = let n : count ≡ 1 → ⊥ = eqb-false count 1 q in sym (lt-ltb 1 count (omega arith))
+
+  either : (own count : ℕ) → 1 ≤ count → (eqb own code || (eqb own (otherCode code) && not (eqb count 1))) ≡ eventHas own count code
+  unfolding eventHas
+  either own count h =
+      rw (counted-is count h, other-back own) (ap (λ (b : Bool). eqb own code || b) (and-comm (eqb (otherCode own) code) (ltb 1 count)))
 
   -- ---- All events
 
@@ -159,14 +190,10 @@ module _ (code : ℕ) where
         ∙ ap (run (eventAt l) 0) (f .sum)
 
     -- what the first i events have
-    pub sofar : ℕ → Bool
+    sofar : ℕ → Bool
     sofar i = any eventHasType (run (eventAt l) 0 i)
 
-    pub sofar-none : false ≡ sofar 0
-    unfolding sofar run
-    sofar-none = refl
-
-    pub sofar-more : (i : ℕ) → i < eventCount l → sofar (i + 1) ≡ sofar i || eventHas (eventAt l i .code) (eventAt l i .count) code
+    sofar-more : (i : ℕ) → i < eventCount l → sofar (i + 1) ≡ sofar i || eventHas (eventAt l i .code) (eventAt l i .count) code
     unfolding sofar
     sofar-more i h =
         let e : EntryFacts l i = f .entry i h in
@@ -174,6 +201,32 @@ module _ (code : ℕ) where
         (ap (λ (b : Bool). any eventHasType (run (eventAt l) 0 i) || b)
         (or-false (eventHasType (eventAt l i)) ∙ elements-have (eventAt l i) (e .codeLow) (e .counted)))
 
-    pub sofar-all : sofar (eventCount l) ≡ any (hasType code) (decode l .productions)
+    sofar-all : sofar (eventCount l) ≡ any (hasType code) (decode l .productions)
     unfolding sofar
     sofar-all = ap (any eventHasType) (sym events-flat) ∙ sym (flat-have (decode l .productions))
+
+    -- a test that finds the events that have the code
+    module _ (test : ℕ → Bool) (t : (i : ℕ) → i < eventCount l → test i ≡ eventHas (eventAt l i .code) (eventAt l i .count) code) where
+      below-sofar : (n : ℕ) → n ≤ eventCount l → anyBelow test n ≡ sofar n
+      unfolding anyBelow sofar run
+      below-sofar zero h = refl
+      below-sofar (suc n) h =
+          let k : n < eventCount l = omega arith in
+          ap₂ _||_ (below-sofar n (omega arith)) (t n k) ∙ sym (sofar-more n k) ∙ ap sofar (add-one n)
+
+      below-type : anyBelow test (eventCount l) ≡ any (hasType code) (decode l .productions)
+      below-type = below-sofar (eventCount l) (omega arith) ∙ sofar-all
+
+    pub code-type : 5 < code → anyBelow (hasCode l code) (eventCount l) ≡ any (hasType code) (decode l .productions)
+    unfolding hasCode
+    code-type h = below-type (hasCode l code) (λ i k. at i (f .entry i k))
+      where
+        at : (i : ℕ) → EntryFacts l i → hasCode l code i ≡ eventHas (eventAt l i .code) (eventAt l i .count) code
+        at i e = rw (e .codeWord) (plain (eventAt l i .code) (eventAt l i .count) h (e .codeLow) (e .counted))
+
+    pub either-type : anyBelow (hasEither l code (otherCode code)) (eventCount l) ≡ any (hasType code) (decode l .productions)
+    unfolding hasEither
+    either-type = below-type (hasEither l code (otherCode code)) (λ i k. at i (f .entry i k))
+      where
+        at : (i : ℕ) → EntryFacts l i → hasEither l code (otherCode code) i ≡ eventHas (eventAt l i .code) (eventAt l i .count) code
+        at i e = rw (e .codeWord, e .countWord) (either (eventAt l i .code) (eventAt l i .count) (e .countLow))

@@ -1,81 +1,58 @@
 -- `matcher::walk::has_type` meets its contract.
-use Prim.Native.Nat.{_-_, _≤_, _<_}
+use Prim.Native.Nat.{ℕ}
 use native.Mathlib.Omega.{arith}
-use mathlib.Core.Path.{_≡_, sym, ap, ap₂, _∙_}
-use mathlib.Core.Bool.{_||_}
+use mathlib.Core.Path.{ap, ap₂, _∙_}
 use denote.Ref.{now}
-use Rattle.tables.specs.Reading.{eventCount, eventAt}
-use Rattle.matcher.specs.Walk.{eventHas}
-use Rattle.matcher.proofs.TableFacts.{TableFacts, table-facts}
-use Rattle.matcher.proofs.TypeLaws.{sofar, sofar-none, sofar-more, sofar-all}
+use Rattle.matcher.specs.Walk.{anyBelow, hasCode, hasEither}
+use Rattle.matcher.proofs.TableFacts.{table-facts}
+use Rattle.matcher.proofs.TypeLaws.{code-type, either-type}
+use borrow.Author.Needs.{needs}
 use Rattle.matcher.proofs.walk.has_type.Statement.{statement}
 use Rattle.matcher.proofs.walk.has_type.Tie as tie
 
-abbrev Inv-loop : tie.InvT-loop
-Inv-loop table code n hit₀ i₀ hit i = (i ≤ n) × ((f : TableFacts table) → hit ≡ sofar code table f i)
-
-abbrev μ-loop : tie.MeasureT-loop
-μ-loop table code n hit₀ i₀ hit i = n - i
-
-event-count-requires : tie.Need-event-count-requires Inv-loop μ-loop
+event-count-requires : tie.Need-event-count-requires
 event-count-requires c κs = table-facts _ (c .before .pre) .long
 
-loop-holds : tie.Need-loop-holds Inv-loop μ-loop
-loop-holds c = (omega arith, λ f. sofar-none (c .before .before .args .code) (now (c .before .before .args .table)) f)
+has-code-requires : tie.Need-has-code-requires
+has-code-requires c κs =
+    let f = table-facts _ (c .before .before .before .pre) in
+    (f .long, omega (arith, f .events, c .before .event-count .ensures))
 
-code-at-requires : tie.Need-code-at-requires Inv-loop μ-loop
-code-at-requires c κs =
-    let f = table-facts _ (c .before .before .before .before .pre) in
-    let n : c .before .loop .i < 256 = omega (arith, f .events, c .before .before .event-count .ensures) in
-    (f .long, n)
-
-count-at-requires : tie.Need-count-at-requires Inv-loop μ-loop
-count-at-requires c κs =
-    let f = table-facts _ (c .before .before .before .before .before .pre) in
-    let n : c .before .before .loop .i < 256 = omega (arith, f .events, c .before .before .before .event-count .ensures) in
-    (f .long, n)
-
-event-has-requires : tie.Need-event-has-requires Inv-loop μ-loop
-event-has-requires c κs =
-    let f = table-facts _ (c .before .before .before .before .before .before .pre) in
-    let h : c .before .before .before .loop .i < eventCount (now (c .before .before .before .before .before .before .args .table)) = omega (arith, c .before .before .before .before .event-count .ensures) in
-    rw (c .before .code-at .ensures) (f .entry (c .before .before .before .loop .i) h .codeHigh)
-
-add-i : tie.Need-add-i Inv-loop μ-loop
-add-i c = omega arith
-
-loop-less : tie.Need-loop-less Inv-loop μ-loop
-loop-less c = omega arith
-
-loop-again : tie.Need-loop-again Inv-loop μ-loop
-loop-again c =
-    let a = c .before .before .before .before .before .before .before .args in
-    let v = c .before .before .before .before .loop in
-    let h : v .i < eventCount (now (a .table)) = omega (arith, c .before .before .before .before .before .event-count .ensures) in
-    let l = now (a .table) in
-    let q : c .event-has .result ≡ eventHas (eventAt l (v .i) .code) (eventAt l (v .i) .count) (a .code)
-    = c .event-has .ensures ∙ rw (c .before .before .code-at .ensures, c .before .count-at .ensures) in
-    (omega arith, λ f. ap₂ _||_ (v .inv .1 f) q ∙ sym (sofar-more (a .code) (now (a .table)) f (v .i) h))
-
-returns : tie.Need-returns Inv-loop μ-loop
+returns : tie.Need-returns
 returns c =
     let a = c .before .before .before .before .args in
-    let f = table-facts (now (a .table)) (c .before .before .before .before .pre) in
-    let q : c .before .loop .i ≡ eventCount (now (a .table)) = omega (arith, c .before .before .event-count .ensures) in
-    c .before .loop .inv .1 f ∙ ap (sofar (a .code) (now (a .table)) f) q ∙ sofar-all (a .code) (now (a .table)) f
+    let l = now (a .table) in
+    c .has-code .ensures
+    ∙ ap (anyBelow (hasCode l (a .code))) (c .before .before .event-count .ensures)
+    ∙ code-type (a .code) l (table-facts l (c .before .before .before .before .pre)) (c .before .if1 .taken)
+
+other-code-requires : tie.Need-other-code-requires
+other-code-requires c κs = search needs
+
+cast-has-either : tie.Need-cast-has-either
+cast-has-either c = search needs
+
+has-either-requires : tie.Need-has-either-requires
+has-either-requires c κs =
+    let f = table-facts _ (c .before .before .before .before .pre) in
+    (f .long, omega (arith, f .events, c .before .before .event-count .ensures))
+
+returns-2 : tie.Need-returns-2
+returns-2 c =
+    let a = c .before .before .before .before .before .args in
+    let l = now (a .table) in
+    c .has-either .ensures
+    ∙ ap₂ (λ (o n : ℕ). anyBelow (hasEither l (a .code) o) n) (c .before .other-code .ensures) (c .before .before .before .event-count .ensures)
+    ∙ either-type (a .code) l (table-facts l (c .before .before .before .before .before .pre))
 
 pub has-type-spec : {M : Type 1} → statement M
 has-type-spec =
     tie.close
     (tie.spec
-    Inv-loop
-    μ-loop
     event-count-requires
-    loop-holds
-    code-at-requires
-    count-at-requires
-    event-has-requires
-    add-i
-    loop-less
-    loop-again
-    returns)
+    has-code-requires
+    returns
+    other-code-requires
+    cast-has-either
+    has-either-requires
+    returns-2)
