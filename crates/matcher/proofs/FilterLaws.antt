@@ -1,12 +1,12 @@
 -- An event that begins a production along which a stretch reads as a prefix passes the quick test, and so stands within the
 -- bounds of those that pass.
-use Prim.Native.Nat.{ℕ, _+_, _-_, _*_, _%_, _≤_, _<_}
+use Prim.Native.Nat.{ℕ, _+_, _-_, _*_, _/_, _%_, _≤_, _<_}
 use native.Mathlib.Omega.{arith}
 use borrow.Author.Tests.{eqb-true, eqb-false, eq-eqb, ltb-true, ltb-false, le-leb}
 use mathlib.Core.Path.{_≡_, refl, sym, ap, _∙_}
 use mathlib.Core.Bool.{Bool, true, false, cond, not, _||_, true≢false}
 use mathlib.Core.List.{List, [], _∷_}
-use lib.Bits.{bitOr, and-le-l, and-le-r, or-add-and}
+use lib.Bits.{bitAnd, bitOr, and-le-l, and-le-r, or-add-and}
 use lib.Dec.{eqb, leb, ltb}
 use lib.ListN.{length, getD, take, drop}
 use Rattle.words.specs.Words.{wordAt}
@@ -18,6 +18,7 @@ use Rattle.model.specs.Matching.{detailMet}
 use Rattle.model.specs.Keyboard.{firstKeysym, secondKeysym}
 use Rattle.model.specs.Modifiers.{bitsMet, clauseMet, stateMeets}
 use Rattle.model.specs.declared.events.Event.{Event}
+use Rattle.modifiers.proofs.Meeting.{bits-met}
 use Rattle.records.specs.Ranges.{EventRanges}
 use Rattle.counts.specs.Elements.{releases, elementCount, elementCode}
 use Rattle.tables.specs.Layout.{codesAt, countsAt, setsAt, clearsAt, lowsAt, highsAt}
@@ -31,29 +32,31 @@ use Rattle.matcher.proofs.TableFacts.{EntryFacts, TableFacts}
 use Rattle.matcher.proofs.EventLaws.{meets-detail}
 use Rattle.matcher.proofs.FollowLaws.{target, Walks, walks-start, walks-other, walks-over, walks-no, walks-turn}
 
-or-true : (a : Bool) → a || true ≡ true
-or-true true = refl
-or-true false = refl
-
 -- ---- The code
 
-first-code : (own count : ℕ) (s : Sought) → 2 ≤ own → elementCode own count 0 ≡ s .code → codeSeems own s ≡ true
-unfolding elementCode codeSeems
-first-code own count s h e = go (leb count 1) refl
+release-odd : (own : ℕ) → releases own ≡ true → own % 2 ≡ 1
+unfolding releases
+release-odd own q = go (eqb own 3) refl
   where
-    same : own ≡ s .code → (eqb own (s .code) || eqb own (s .code + 1)) ≡ true
-    same q = rw (eq-eqb own (s .code) q)
+    go : (t : Bool) → eqb own 3 ≡ t → own % 2 ≡ 1
+    go true e = rw (eqb-true own 3 e)
+    go false e = rw (eqb-true own 5 (ap (λ (t : Bool). t || eqb own 5) (sym e) ∙ q))
 
-    less : own - 1 ≡ s .code → (eqb own (s .code) || eqb own (s .code + 1)) ≡ true
-    less q =
-        let p : own ≡ s .code + 1 = omega arith in
-        rw (eq-eqb own (s .code + 1) p) (or-true (eqb own (s .code)))
+first-code : (own count : ℕ) (s : Sought) → elementCode own count 0 ≡ s .code → codeSeems own s ≡ true
+unfolding elementCode codeSeems
+first-code own count s e = go (leb count 1) refl
+  where
+    same : own ≡ s .code → eqb (own / 2) (s .code / 2) ≡ true
+    same q = eq-eqb (own / 2) (s .code / 2) (omega arith)
 
-    kind : (t : Bool) → releases own ≡ t → leb count 1 ≡ false → (eqb own (s .code) || eqb own (s .code + 1)) ≡ true
-    kind true q r = less (sym (rw (r, q)) ∙ e)
+    kind : (t : Bool) → releases own ≡ t → leb count 1 ≡ false → eqb (own / 2) (s .code / 2) ≡ true
+    kind true q r =
+        let p : own - 1 ≡ s .code = sym (rw (r, q)) ∙ e in
+        let o : own % 2 ≡ 1 = release-odd own q in
+        eq-eqb (own / 2) (s .code / 2) (omega arith)
     kind false q r = same (sym (rw (r, q)) ∙ e)
 
-    go : (t : Bool) → leb count 1 ≡ t → (eqb own (s .code) || eqb own (s .code + 1)) ≡ true
+    go : (t : Bool) → leb count 1 ≡ t → eqb (own / 2) (s .code / 2) ≡ true
     go true q = same (sym (rw q) ∙ e)
     go false q = kind (releases own) refl q
 
@@ -78,27 +81,20 @@ sought-code : (map : List ℕ) (x : Event) → x .code ≡ soughtOf map x .code
 unfolding soughtOf
 sought-code map x = refl
 
--- what is sought has the code of an event
-pub sought-below : (map : List ℕ) (x : Event) → EventRanges x → (s : Sought) → s ≡ soughtOf map x → s .code ≤ 34
-unfolding soughtOf
-sought-below map x r s e = rw e (r .code-most)
-
-pub sought-state : (map : List ℕ) (x : Event) → EventRanges x → (s : Sought) → s ≡ soughtOf map x → s .state < 8192
-unfolding soughtOf
-sought-state map x r s e = rw e (r .state-most)
-
 state-part : (map l : List ℕ) (i : ℕ) (x : Event) → eventMeets map (eventAt l i) x ≡ true
     → stateMeets (eventAt l i .set) (eventAt l i .clear) (isFlag 2 (flagsIn l i)) (x .state) ≡ true
 unfolding eventMeets eventAt eventOf flagsIn
 state-part map l i x m =
     and-left (stateMeets (eventAt l i .set) (eventAt l i .clear) (isFlag 2 (flagsIn l i)) (x .state)) (detailMet map (eventAt l i) (eventAt l i .detail) x) m
 
-suits-state : (map l : List ℕ) (i : ℕ) (x : Event)
+suits-state : (map l : List ℕ) (i : ℕ) (x : Event) → EntryFacts l i
     → stateMeets (eventAt l i .set) (eventAt l i .clear) (isFlag 2 (flagsIn l i)) (x .state) ≡ true → suits l i (soughtOf map x) ≡ true
 unfolding suits stateMeets soughtOf eventAt eventOf
-suits-state map l i x m =
-    and-both (bitsMet (wordAt l (setsAt + i)) (wordAt l (clearsAt + i)) (x .state)) true
-    (and-left (bitsMet (wordAt l (setsAt + i)) (wordAt l (clearsAt + i)) (x .state)) (clauseMet (isFlag 2 (flagsIn l i)) (x .state)) m) refl
+suits-state map l i x f m =
+    let set = wordAt l (setsAt + i) in
+    let clear = wordAt l (clearsAt + i) in
+    let b : bitsMet set clear (x .state) ≡ true = and-left (bitsMet set clear (x .state)) (clauseMet (isFlag 2 (flagsIn l i)) (x .state)) m in
+    and-left (eqb (bitAnd (x .state) set) set) (eqb (bitAnd (x .state) clear) 0) (sym (bits-met set clear (x .state) (f .setBelow) (f .clearBelow)) ∙ b)
 
 module _ (map : List ℕ) (x : Event) where
   none-asked : (low : ℕ) → low ≡ 0 → detailSeems low (soughtOf map x) ≡ true
@@ -145,7 +141,7 @@ module _ (map : List ℕ) (x : Event) where
           let p = chain-parts (eqb (elementCode (eventAt l i .code) (eventAt l i .count) 0) (x .code))
           (eventMeets map (eventAt l i) x ∷ (not (elementOf (eventAt l i) 0 .timed) || quick limit before (x .time)) ∷ []) e in
           let c : codeSeems (wordAt l (codesAt + i)) (soughtOf map x) ≡ true
-          = rw (f .codeWord) (first-code (eventAt l i .code) (eventAt l i .count) (soughtOf map x) (f .codeLow) (eqb-true (elementCode (eventAt l i .code) (eventAt l i .count) 0) (x .code) (p .0) ∙ sought-code map x)) in
+          = rw (f .codeWord) (first-code (eventAt l i .code) (eventAt l i .count) (soughtOf map x) (eqb-true (elementCode (eventAt l i .code) (eventAt l i .count) 0) (x .code) (p .0) ∙ sought-code map x)) in
           and-both (codeSeems (wordAt l (codesAt + i)) (soughtOf map x)) (detailSeems (wordAt l (lowsAt + i)) (soughtOf map x)) c (detail-seems (p .1 .0))
 
       suits-fits : fitsAfter map limit before (elementOf (eventAt l i) 0) x ≡ true → suits l i (soughtOf map x) ≡ true
@@ -153,7 +149,7 @@ module _ (map : List ℕ) (x : Event) where
       suits-fits e =
           let p = chain-parts (eqb (elementCode (eventAt l i .code) (eventAt l i .count) 0) (x .code))
           (eventMeets map (eventAt l i) x ∷ (not (elementOf (eventAt l i) 0 .timed) || quick limit before (x .time)) ∷ []) e in
-          suits-state map l i x (state-part map l i x (p .1 .0))
+          suits-state map l i x f (state-part map l i x (p .1 .0))
 
       -- an event that does not pass does not fit
       pub fits-suits : suits l i (soughtOf map x) ≡ false → fitsAfter map limit before (elementOf (eventAt l i) 0) x ≡ false

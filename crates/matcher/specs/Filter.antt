@@ -1,16 +1,16 @@
 -- A quick test of the events of a table. One that begins a production along which a stretch reads as a prefix passes it
 -- (proofs/FilterLaws), so a production whose first event does not pass need not be walked.
-use Prim.Native.Nat.{ℕ, _+_, _≤_, _<_}
+use Prim.Native.Nat.{ℕ, _+_, _/_, _≤_, _<_}
 use mathlib.Core.Path.{_≡_}
-use mathlib.Core.Bool.{Bool, true, false, cond, _&&_, _||_}
+use mathlib.Core.Bool.{Bool, true, cond, _&&_, _||_}
 use mathlib.Core.List.{List}
+use lib.Bits.{bitAnd}
 use lib.Dec.{eqb, leb, ltb}
 use Rattle.words.specs.Words.{wordAt}
 use Rattle.keyboard.specs.Folds.{fold, folded}
 use Rattle.model.specs.Keyboard.{firstKeysym, secondKeysym}
-use Rattle.model.specs.Modifiers.{stateMeets}
 use Rattle.model.specs.declared.events.Event.{Event}
-use Rattle.tables.specs.Layout.{codesAt, countsAt, setsAt, clearsAt, lowsAt}
+use Rattle.tables.specs.Layout.{codesAt, countsAt, setsAt, lowsAt}
 use Rattle.matcher.specs.declared.filter.Sought.{Sought}
 
 -- the second keysym of a pair; where it is 0 the first stands for both
@@ -28,9 +28,9 @@ soughtOf map x =
       second = folded (cond (leb (x .code) 3) (other (firstKeysym map (x .detail)) (secondKeysym map (x .detail))) (x .detail));
     }
 
--- a counted release begins with a press, whose code is one less
+-- the codes are the same, or those of a press and its release, 2 and 3 or 4 and 5: a counted release begins with a press
 unfoldable pub codeSeems : ℕ → Sought → Bool
-codeSeems own s = eqb own (s .code) || eqb own (s .code + 1)
+codeSeems own s = eqb (own / 2) (s .code / 2)
 
 -- where no detail is asked for, the word is 0
 unfoldable pub detailSeems : ℕ → Sought → Bool
@@ -40,9 +40,9 @@ detailSeems low s = eqb low 0 || eqb (fold low) (s .first) || eqb (fold low) (s 
 unfoldable pub seems : List ℕ → ℕ → Sought → Bool
 seems l i s = codeSeems (wordAt l (codesAt + i)) s && detailSeems (wordAt l (lowsAt + i)) s
 
--- the state has the bits that event i asks set, and lacks those that it asks clear
+-- the state has the bits that event i asks set
 unfoldable pub suits : List ℕ → ℕ → Sought → Bool
-suits l i s = stateMeets (wordAt l (setsAt + i)) (wordAt l (clearsAt + i)) false (s .state)
+suits l i s = eqb (bitAnd (s .state) (wordAt l (setsAt + i))) (wordAt l (setsAt + i))
 
 -- it may begin a production for a stretch: one of a single event, or one whose second event meets the same event, if that
 -- is counted, or else the next

@@ -50,12 +50,13 @@ pub fn sought_of(map: &[u8], x: Event) -> Sought
     }
 }
 
+// Whether the codes are a press and its release, or the same: 2 and 3 are those of keys, 4 and 5 those of buttons, and a
+// counted release begins with a press.
 fn code_seems(own: u16, s: Sought) -> bool
-    requires { ⌜ s .code ≤ 34 ⌝ }
     ensures { λ r. ⌜ r ≡ codeSeems own s ⌝ }
 {
     let code = s.code;
-    (own == code) | (own == code + 1)
+    own / 2 == code / 2
 }
 
 fn detail_seems(low: u16, s: Sought) -> bool
@@ -69,7 +70,7 @@ fn detail_seems(low: u16, s: Sought) -> bool
 
 // Whether event i of a table may be met first by what is sought.
 fn seems(table: &[u8], i: usize, s: Sought) -> bool
-    requires { ⌜ (5904 ≤ length (now table)) × (i ≤ 256) × (s .code ≤ 34) ⌝ }
+    requires { ⌜ (5904 ≤ length (now table)) × (i ≤ 256) ⌝ }
     ensures { λ r. ⌜ r ≡ seems (now (table .entry)) i s ⌝ }
 {
     let own = words::word_at(table, reader::CODES + i);
@@ -79,7 +80,7 @@ fn seems(table: &[u8], i: usize, s: Sought) -> bool
 
 // The same, by the code alone where that is another: one event at a time this is faster.
 pub fn seems_one(table: &[u8], i: usize, s: Sought) -> bool
-    requires { ⌜ (5904 ≤ length (now table)) × (i ≤ 256) × (s .code ≤ 34) ⌝ }
+    requires { ⌜ (5904 ≤ length (now table)) × (i ≤ 256) ⌝ }
     ensures { λ r. ⌜ r ≡ seems (now (table .entry)) i s ⌝ }
 {
     let own = words::word_at(table, reader::CODES + i);
@@ -90,22 +91,18 @@ pub fn seems_one(table: &[u8], i: usize, s: Sought) -> bool
     detail_seems(low, s)
 }
 
-// Whether the state has the bits that event i asks set, and lacks those that it asks clear.
+// Whether the state has the bits that event i asks set. Those that it asks clear are left to the walk.
 fn suits(table: &[u8], i: usize, s: Sought) -> bool
-    requires { ⌜ (whole (now table) ≡ true) × (i < eventCount (now table)) × (s .state < 8192) ⌝ }
+    requires { ⌜ (5904 ≤ length (now table)) × (i < 256) ⌝ }
     ensures { λ r. ⌜ r ≡ suits (now (table .entry)) i s ⌝ }
 {
-    modifiers::state_meets(
-        reader::set_at(table, i),
-        reader::clear_at(table, i),
-        false,
-        s.state,
-    )
+    let set = reader::set_at(table, i);
+    s.state & set == set
 }
 
 // Whether event i may begin a production for a stretch that begins with `one` and, if it is not short, goes on with `two`.
 fn begins(table: &[u8], one: Sought, short: bool, two: Sought, i: usize) -> bool
-    requires { ⌜ (whole (now table) ≡ true) × (i < eventCount (now table)) × (one .code ≤ 34) × (one .state < 8192) × (two .code ≤ 34) ⌝ }
+    requires { ⌜ (5904 ≤ length (now table)) × (i < 256) ⌝ }
     ensures { λ r. ⌜ r ≡ begins (now (table .entry)) one short two i ⌝ }
 {
     let counted = 1 < words::word_at(table, reader::COUNTS + i);
@@ -159,7 +156,7 @@ fn low_of(turned: u16) -> u16
 // Where the events stand that may begin a production for a stretch of one event. No early exit, and no number above 16 bits,
 // so that the loop is compiled to vector instructions.
 pub fn reach_alone(table: &[u8], one: Sought) -> Reach
-    requires { ⌜ (whole (now table) ≡ true) × (one .code ≤ 34) × (one .state < 8192) ⌝ }
+    requires { ⌜ whole (now table) ≡ true ⌝ }
     ensures { λ r. ⌜ Within (begins (now (table .entry)) one true one) (eventCount (now (table .entry))) (r .low) (r .high) ⌝ }
 {
     let n = tables::read::event_count(table);
@@ -180,7 +177,7 @@ pub fn reach_alone(table: &[u8], one: Sought) -> Reach
 
 // The same for a longer stretch.
 pub fn reach_paired(table: &[u8], one: Sought, two: Sought) -> Reach
-    requires { ⌜ (whole (now table) ≡ true) × (one .code ≤ 34) × (one .state < 8192) × (two .code ≤ 34) ⌝ }
+    requires { ⌜ whole (now table) ≡ true ⌝ }
     ensures { λ r. ⌜ Within (begins (now (table .entry)) one false two) (eventCount (now (table .entry))) (r .low) (r .high) ⌝ }
 {
     let n = tables::read::event_count(table);
@@ -201,7 +198,7 @@ pub fn reach_paired(table: &[u8], one: Sought, two: Sought) -> Reach
 
 // The same by the code alone: of events other than keys few stand in a table, and one word of each is read.
 pub fn reach_of_code(table: &[u8], one: Sought) -> Reach
-    requires { ⌜ (whole (now table) ≡ true) × (one .code ≤ 34) ⌝ }
+    requires { ⌜ whole (now table) ≡ true ⌝ }
     ensures { λ r. ⌜ Within (codeBegins (now (table .entry)) one) (eventCount (now (table .entry))) (r .low) (r .high) ⌝ }
 {
     let n = tables::read::event_count(table);

@@ -1,33 +1,26 @@
 -- `matcher::filter::begins` meets its contract.
-use native.Mathlib.Omega.{arith}
 use Rattle.matcher.specs.Filter.{begins}
-use Rattle.matcher.proofs.TableFacts.{table-facts}
+use borrow.Author.Needs.{needs}
 use Rattle.matcher.proofs.filter.begins.Statement.{statement}
 use Rattle.matcher.proofs.filter.begins.Tie as tie
 
 add-word-at : tie.Need-add-word-at
-add-word-at c = omega (arith, table-facts _ (c .before .pre .0) .events, c .before .pre .1)
+add-word-at c = search needs
 
 word-at-requires : tie.Need-word-at-requires
-word-at-requires c κs =
-    let f = table-facts _ (c .before .pre .0) in
-    omega (arith, f .long, f .events, c .before .pre .1)
+word-at-requires c κs = search needs
 
 seems-requires : tie.Need-seems-requires
-seems-requires c κs =
-    let f = table-facts _ (c .before .before .pre .0) in
-    (f .long, omega (arith, f .events, c .before .before .pre .1), c .before .before .pre .2)
+seems-requires c κs = search needs
 
 suits-requires : tie.Need-suits-requires
-suits-requires c κs = (c .before .before .before .pre .0, c .before .before .before .pre .1, c .before .before .before .pre .3)
+suits-requires c κs = search needs
 
 add-seems : tie.Need-add-seems
-add-seems c = omega (arith, table-facts _ (c .before .before .before .before .pre .0) .events, c .before .before .before .before .pre .1)
+add-seems c = search needs
 
 seems-requires-2 : tie.Need-seems-requires-2
-seems-requires-2 c κs =
-    let f = table-facts _ (c .before .before .before .before .pre .0) in
-    (f .long, omega (arith, f .events, c .before .before .before .before .pre .1), c .before .before .before .before .pre .4)
+seems-requires-2 c κs = search needs
 
 returns : tie.Need-returns
 unfolding begins

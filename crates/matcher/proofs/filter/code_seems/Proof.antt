@@ -1,16 +1,12 @@
 -- `matcher::filter::code_seems` meets its contract.
-use native.Mathlib.Omega.{arith}
 use mathlib.Core.Path.{refl}
 use Rattle.matcher.specs.Filter.{codeSeems}
 use Rattle.matcher.proofs.filter.code_seems.Statement.{statement}
 use Rattle.matcher.proofs.filter.code_seems.Tie as tie
-
-add-result : tie.Need-add-result
-add-result c = omega (arith, c .pre)
 
 returns : tie.Need-returns
 unfolding codeSeems
 returns c = refl
 
 pub code-seems-spec : {M : Type 1} → statement M
-code-seems-spec = tie.close (tie.spec add-result returns)
+code-seems-spec = tie.close (tie.spec returns)

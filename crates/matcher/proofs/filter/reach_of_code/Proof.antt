@@ -18,21 +18,21 @@ abbrev μ-loop : tie.MeasureT-loop
 μ-loop table one n high₀ turned₀ i₀ high turned i = n - i
 
 event-count-requires : tie.Need-event-count-requires Inv-loop μ-loop
-event-count-requires c κs = table-facts _ (c .before .pre .0) .long
+event-count-requires c κs = table-facts _ (c .before .pre) .long
 
 loop-holds : tie.Need-loop-holds Inv-loop μ-loop
 loop-holds c =
-    let f = table-facts _ (c .before .before .pre .0) .events in
+    let f = table-facts _ (c .before .before .pre) .events in
     (omega arith, omega (arith, c .event-count .ensures), noted-start (codeBegins (now (c .before .before .args .table)) (c .before .before .args .one)))
 
 add-word-at : tie.Need-add-word-at Inv-loop μ-loop
 add-word-at c = omega (arith, c .before .loop .inv .0, c .before .loop .inv .1)
 
 word-at-requires : tie.Need-word-at-requires Inv-loop μ-loop
-word-at-requires c κs = omega (arith, table-facts _ (c .before .before .before .before .pre .0) .long, c .before .loop .inv .0, c .before .loop .inv .1)
+word-at-requires c κs = omega (arith, table-facts _ (c .before .before .before .before .pre) .long, c .before .loop .inv .0, c .before .loop .inv .1)
 
 code-seems-requires : tie.Need-code-seems-requires Inv-loop μ-loop
-code-seems-requires c κs = c .before .before .before .before .before .pre .1
+code-seems-requires c κs = search needs
 
 end-at-requires : tie.Need-end-at-requires Inv-loop μ-loop
 end-at-requires c κs = omega (arith, c .before .before .loop-test .taken, c .before .before .before .loop .inv .1)

@@ -20,7 +20,7 @@ word-at-requires-2 : tie.Need-word-at-requires-2
 word-at-requires-2 c κs = search needs
 
 code-seems-requires : tie.Need-code-seems-requires
-code-seems-requires c κs = c .before .before .before .pre .2
+code-seems-requires c κs = search needs
 
 detail-seems-requires : tie.Need-detail-seems-requires
 detail-seems-requires c κs = search needs

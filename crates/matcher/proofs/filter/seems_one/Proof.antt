@@ -18,7 +18,7 @@ word-at-requires : tie.Need-word-at-requires
 word-at-requires c κs = search needs
 
 code-seems-requires : tie.Need-code-seems-requires
-code-seems-requires c κs = c .before .before .pre .2
+code-seems-requires c κs = search needs
 
 returns : tie.Need-returns
 unfolding seems

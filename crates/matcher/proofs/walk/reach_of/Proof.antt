@@ -1,5 +1,5 @@
 -- `matcher::walk::reach_of` meets its contract.
-use Prim.Native.Nat.{_+_, _≤_, _<_}
+use Prim.Native.Nat.{_+_, _<_}
 use native.Mathlib.Omega.{arith}
 use mathlib.Core.Path.{_≡_, sym, ap, _∙_}
 use mathlib.Core.Bool.{true, false}
@@ -11,19 +11,9 @@ use Rattle.matcher.specs.State.{zeroEvent, slotsOf}
 use Rattle.matcher.specs.Filter.{soughtOf}
 use Rattle.matcher.proofs.TableFacts.{table-facts}
 use Rattle.matcher.proofs.SlotLaws.{length-slots, in-slot}
-use Rattle.matcher.proofs.FilterLaws.{sought-below, sought-state, outside-code, outside-begins}
+use Rattle.matcher.proofs.FilterLaws.{outside-code, outside-begins}
 use Rattle.matcher.proofs.walk.reach_of.Statement.{statement}
 use Rattle.matcher.proofs.walk.reach_of.Tie as tie
-
--- what is sought has the code and the state of an event
-below : (c : tie.After-struct-known) → (c .before .before .before .before .args .one .code ≤ 34) × (c .before .before .before .before .args .one .state < 8192)
-below c =
-    let a = c .before .before .before .before .args in
-    let p = c .before .before .before .before .pre in
-    let m = mapNumbers (now (a .map)) in
-    let x = getD (slotsOf (now (a .events))) (a .from) zeroEvent in
-    let r = p .0 .ranges (a .from) (p .1) in
-    (sought-below m x r (a .one) (p .2), sought-state m x r (a .one) (p .2))
 
 -- there is a next event
 next : (c : tie.Else2) → c .before .before .before .before .before .before .args .from + 1 < c .before .before .before .before .before .before .args .to
@@ -41,7 +31,7 @@ second-is : (c : tie.After-sought-of)
 second-is c = c .sought-of .ensures ∙ ap (soughtOf (mapNumbers (now (c .before .before .before .before .before .before .before .before .args .map)))) (next-is (c .before))
 
 reach-of-code-requires : tie.Need-reach-of-code-requires
-reach-of-code-requires c κs = (c .before .before .before .before .before .pre .0 .isWhole, below (c .before) .0)
+reach-of-code-requires c κs = c .before .before .before .before .before .pre .0 .isWhole
 
 returns : tie.Need-returns
 returns c =
@@ -55,7 +45,7 @@ add-if2 : tie.Need-add-if2
 add-if2 c = omega (arith, c .before .before .before .before .before .pre .0 .room, c .before .before .before .before .before .pre .1)
 
 reach-alone-requires : tie.Need-reach-alone-requires
-reach-alone-requires c κs = (c .before .before .before .before .before .before .pre .0 .isWhole, below (c .before .before) .0, below (c .before .before) .1)
+reach-alone-requires c κs = c .before .before .before .before .before .before .pre .0 .isWhole
 
 returns-2 : tie.Need-returns-2
 returns-2 c =
@@ -77,10 +67,7 @@ sought-of-requires : tie.Need-sought-of-requires
 sought-of-requires c κs = (c .before .before .before .before .before .before .before .pre .0 .mapped, rw (next-is c) (c .before .before .before .before .before .before .before .pre .0 .ranges (c .before .before .before .before .before .before .before .args .from + 1) (next (c .before))))
 
 reach-paired-requires : tie.Need-reach-paired-requires
-reach-paired-requires c κs =
-    let a = c .before .before .before .before .before .before .before .before .args in
-    let p = c .before .before .before .before .before .before .before .before .pre in
-    (p .0 .isWhole, below (c .before .before .before .before) .0, below (c .before .before .before .before) .1, sought-below (mapNumbers (now (a .map))) (getD (slotsOf (now (a .events))) (a .from + 1) zeroEvent) (p .0 .ranges (a .from + 1) (next (c .before .before))) (c .sought-of .result) (second-is c))
+reach-paired-requires c κs = c .before .before .before .before .before .before .before .before .pre .0 .isWhole
 
 returns-3 : tie.Need-returns-3
 returns-3 c =

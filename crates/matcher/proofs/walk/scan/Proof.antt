@@ -5,19 +5,19 @@ use mathlib.Core.Path.{_≡_, refl, sym, ap, _∙_}
 use mathlib.Core.Option.{none}
 use mathlib.Core.List.{List}
 use denote.Ref.{now}
-use lib.ListN.{getD, take, drop}
+use lib.ListN.{take, drop}
 use Rattle.words.specs.Runs.{run}
 use Rattle.keyboard.specs.Maps.{mapNumbers}
 use Rattle.model.specs.Counts.{expanded}
 use Rattle.model.specs.declared.events.Event.{Event}
 use Rattle.tables.specs.Reading.{productionCount, eventAt}
 use Rattle.matcher.specs.declared.walk.Followed.{Followed}
-use Rattle.matcher.specs.State.{zeroEvent, slotsOf}
+use Rattle.matcher.specs.State.{slotsOf}
 use Rattle.matcher.specs.Walk.{walked}
 use Rattle.matcher.specs.Filter.{seems}
 use Rattle.matcher.proofs.TableFacts.{table-facts}
 use Rattle.matcher.proofs.SlotLaws.{length-slots}
-use Rattle.matcher.proofs.FilterLaws.{sought-below, seems-not}
+use Rattle.matcher.proofs.FilterLaws.{seems-not}
 use Rattle.matcher.proofs.PassLaws.{Passing, passing-over, passing-past, passing-no, passing-prefix, passing-whole, passing-end, Place, place-of}
 use borrow.Author.Needs.{needs}
 use Rattle.matcher.proofs.walk.scan.Statement.{statement}
@@ -97,10 +97,8 @@ production-events-requires c κs =
 
 seems-one-requires : tie.Need-seems-one-requires Inv-loop μ-loop
 seems-one-requires c κs =
-    let g = place c in
-    let a = c .before .before .before .before .before .before .before .before .before .before .before .args in
     let p = c .before .before .before .before .before .before .before .before .before .before .before .pre in
-    (table-facts _ (p .0 .isWhole) .long, omega (arith, g .small), sought-below (mapNumbers (now (a .map))) (getD (slotsOf (now (a .events))) (a .from) zeroEvent) (p .0 .ranges (a .from) (p .1)) (a .one) (p .2))
+    (table-facts _ (p .0 .isWhole) .long, omega (arith, place c .small))
 
 follow-requires : tie.Need-follow-requires Inv-loop μ-loop
 follow-requires c κs =
