@@ -2,7 +2,7 @@
 -- bounds of those that pass.
 use Prim.Native.Nat.{ℕ, _+_, _-_, _*_, _/_, _%_, _≤_, _<_}
 use native.Mathlib.Omega.{arith}
-use borrow.Author.Tests.{eqb-true, eqb-false, eq-eqb, ltb-true, ltb-false, le-leb}
+use borrow.Author.Tests.{eqb-true, eq-eqb, ltb-true, ltb-false, le-leb}
 use mathlib.Core.Path.{_≡_, refl, sym, ap, _∙_}
 use mathlib.Core.Bool.{Bool, true, false, cond, not, _||_, true≢false}
 use mathlib.Core.List.{List, [], _∷_}
@@ -10,7 +10,7 @@ use lib.Bits.{bitAnd, bitOr, and-le-l, and-le-r, or-add-and}
 use lib.Dec.{eqb, leb, ltb}
 use lib.ListN.{length, getD, take, drop}
 use Rattle.words.specs.Words.{wordAt}
-use Rattle.words.proofs.Bools.{and-left, and-both, or-no-left, or-no-right, chain-parts}
+use Rattle.words.proofs.Bools.{and-left, and-both, chain-parts}
 use Rattle.keyboard.specs.Folds.{fold, folded}
 use Rattle.keyboard.proofs.Folds.{asked-in}
 use Rattle.model.specs.Counts.{quick}
@@ -27,7 +27,7 @@ use Rattle.matcher.specs.declared.filter.Sought.{Sought}
 use Rattle.matcher.specs.declared.walk.Followed.{Followed}
 use Rattle.matcher.specs.State.{zeroEvent}
 use Rattle.matcher.specs.Walk.{Outside, eventMeets, detailAsked, flagsIn, valueIn, elementOf, fitsAfter, sizeIn}
-use Rattle.matcher.specs.Filter.{other, soughtOf, suits, codeSeems, detailSeems, seems, begins, codeBegins, Within}
+use Rattle.matcher.specs.Filter.{other, soughtOf, suits, codeSeems, detailSeems, seems, begins, pairs, codeBegins, Within}
 use Rattle.matcher.proofs.TableFacts.{EntryFacts, TableFacts}
 use Rattle.matcher.proofs.EventLaws.{meets-detail}
 use Rattle.matcher.proofs.FollowLaws.{target, Walks, walks-start, walks-other, walks-over, walks-no, walks-turn}
@@ -226,28 +226,29 @@ module _ (map : List ℕ) (limit : ℕ) (l : List ℕ) (f : TableFacts l) (b : B
       go true e = more (ltb (first + 1) (first + n)) refl e
       go false e = walks-other map limit l first n events from to long room m o (fit first from) refl e
 
-  module _ (short : Bool) (two : Sought) (es : short ≡ eqb (from + 1) to) (et : from + 1 < to → two ≡ soughtOf map (x (from + 1))) where
-    pub begins-not : begins l (soughtOf map (x from)) short two first ≡ false → target map limit l first n events from to ≡ Followed.No
-    unfolding begins
-    begins-not q = go (seems l first (soughtOf map (x from))) refl
-      where
-        last : (short || ltb 1 (wordAt l (countsAt + first)) || seems l (first + 1) two) ≡ false → target map limit l first n events from to ≡ Followed.No
-        last r =
-            let u : (short || ltb 1 (wordAt l (countsAt + first))) ≡ false = or-no-left (short || ltb 1 (wordAt l (countsAt + first))) (seems l (first + 1) two) r in
-            let v : short ≡ false = or-no-left short (ltb 1 (wordAt l (countsAt + first))) u in
-            let d : from + 1 ≡ to → ⊥ = eqb-false (from + 1) to (sym es ∙ v) in
-            let h : from + 1 < to = omega arith in
-            second-not (ltb-false 1 (wordAt l (countsAt + first)) (or-no-right short (ltb 1 (wordAt l (countsAt + first))) u)) h
-            (ap (seems l (first + 1)) (sym (et h)) ∙ or-no-right (short || ltb 1 (wordAt l (countsAt + first))) (seems l (first + 1) two) r)
+  pub begins-not : begins l (soughtOf map (x from)) first ≡ false → target map limit l first n events from to ≡ Followed.No
+  unfolding begins
+  begins-not q = go (seems l first (soughtOf map (x from))) refl
+    where
+      go : (t : Bool) → seems l first (soughtOf map (x from)) ≡ t → target map limit l first n events from to ≡ Followed.No
+      go false e = seems-not e
+      go true e = suits-not (rw e at q)
 
-        on : (t : Bool) → suits l first (soughtOf map (x from)) ≡ t → seems l first (soughtOf map (x from)) ≡ true
-            → target map limit l first n events from to ≡ Followed.No
-        on false e g = suits-not e
-        on true e g = last (rw (g, e) at q)
+  pub pairs-not : (two : Sought) → from + 1 < to → two ≡ soughtOf map (x (from + 1)) → pairs l (soughtOf map (x from)) two first ≡ false
+      → target map limit l first n events from to ≡ Followed.No
+  unfolding pairs
+  pairs-not two h et q = go (seems l first (soughtOf map (x from))) refl
+    where
+      last : (s : Bool) → eqb (wordAt l (countsAt + first)) 1 ≡ s → (not s || seems l (first + 1) two) ≡ false
+          → target map limit l first n events from to ≡ Followed.No
+      last true c r =
+          let d : wordAt l (countsAt + first) ≡ 1 = eqb-true (wordAt l (countsAt + first)) 1 c in
+          second-not (omega arith) h (ap (seems l (first + 1)) (sym et) ∙ r)
+      last false c r = absurd (true≢false r)
 
-        go : (t : Bool) → seems l first (soughtOf map (x from)) ≡ t → target map limit l first n events from to ≡ Followed.No
-        go false e = seems-not e
-        go true e = on (suits l first (soughtOf map (x from))) refl e
+      go : (t : Bool) → seems l first (soughtOf map (x from)) ≡ t → target map limit l first n events from to ≡ Followed.No
+      go false e = seems-not e
+      go true e = last (eqb (wordAt l (countsAt + first)) 1) refl (rw e at q)
 
   -- the code alone is another
   pub code-not : codeBegins l (soughtOf map (x from)) first ≡ false → target map limit l first n events from to ≡ Followed.No
@@ -264,34 +265,54 @@ or-least-right : (a b : ℕ) → b ≤ bitOr a b
 or-least-right a b = omega (arith, or-add-and a b, and-le-l a b)
 
 module _ (f : ℕ → Bool) where
-  -- of the first n events, the numbers i + 1 and 256 - i of each that passes are in the joined ones
-  abbrev pub Noted : (n high turned : ℕ) → Type 0
-  Noted n high turned = (j : ℕ) → j < n → f j ≡ true → (j < high) × (256 ≤ j + turned)
+  -- of the first n events, the number of each that passes is in the joined one
+  abbrev pub Joined : (ℕ → ℕ) → (n joined : ℕ) → Type 0
+  Joined number n joined = (j : ℕ) → j < n → f j ≡ true → number j ≤ joined
 
-  pub noted-start : Noted 0 0 0
-  noted-start j h e = absurd (omega arith)
-
-  pub noted-step : (i high turned : ℕ) → Noted i high turned → (t : Bool) → t ≡ f i → (a b : ℕ) → a ≡ cond t (i + 1) 0
-      → b ≡ cond t (256 - i) 0 → Noted (i + 1) (bitOr high a) (bitOr turned b)
-  noted-step i high turned w t e a b ea eb j h q = go (ltb j i) refl
+  joined-step : (number : ℕ → ℕ) (i joined : ℕ) → Joined number i joined → (t : Bool) → t ≡ f i → (a : ℕ) → a ≡ cond t (number i) 0
+      → Joined number (i + 1) (bitOr joined a)
+  joined-step number i joined w t e a ea j h q = go (ltb j i) refl
     where
-      go : (s : Bool) → ltb j i ≡ s → (j < bitOr high a) × (256 ≤ j + bitOr turned b)
-      go true k =
-          let d = w j (ltb-true j i k) q in
-          (omega (arith, d .0, or-least-left high a), omega (arith, d .1, or-least-left turned b))
+      go : (s : Bool) → ltb j i ≡ s → number j ≤ bitOr joined a
+      go true k = omega (arith, w j (ltb-true j i k) q, or-least-left joined a)
       go false k =
           let n : i ≤ j = ltb-false j i k in
           let m : j ≡ i = omega arith in
           let u : t ≡ true = e ∙ ap f (sym m) ∙ q in
-          let v : a ≡ i + 1 = ea ∙ ap (λ (s : Bool). cond s (i + 1) 0) u in
-          let z : b ≡ 256 - i = eb ∙ ap (λ (s : Bool). cond s (256 - i) 0) u in
-          (omega (arith, or-least-right high a), omega (arith, or-least-right turned b))
+          let v : a ≡ number i = ea ∙ ap (λ (s : Bool). cond s (number i) 0) u in
+          rw m (omega (arith, or-least-right joined a))
+
+  -- the numbers i + 1
+  abbrev pub Ended : (n high : ℕ) → Type 0
+  Ended = Joined (λ j. j + 1)
+
+  pub ended-start : Ended 0 0
+  ended-start j h e = absurd (omega arith)
+
+  pub ended-step : (i high : ℕ) → Ended i high → (t : Bool) → t ≡ f i → (a : ℕ) → a ≡ cond t (i + 1) 0 → Ended (i + 1) (bitOr high a)
+  ended-step = joined-step (λ j. j + 1)
+
+  pub ended-end : (n m high : ℕ) → Ended n high → n ≡ m → Within f m 0 high
+  ended-end n m high w e j k q =
+      let p : j < n = omega arith in
+      (omega arith, omega (arith, w j p q))
+
+  -- and the numbers 256 - i
+  abbrev pub Noted : (n high turned : ℕ) → Type 0
+  Noted n high turned = Ended n high × Joined (λ j. 256 - j) n turned
+
+  pub noted-start : Noted 0 0 0
+  noted-start = (ended-start, λ j h e. absurd (omega arith))
+
+  pub noted-step : (i high turned : ℕ) → Noted i high turned → (t : Bool) → t ≡ f i → (a b : ℕ) → a ≡ cond t (i + 1) 0
+      → b ≡ cond t (256 - i) 0 → Noted (i + 1) (bitOr high a) (bitOr turned b)
+  noted-step i high turned w t e a b ea eb =
+      (ended-step i high (w .0) t e a ea, joined-step (λ j. 256 - j) i turned (w .1) t e b eb)
 
   pub noted-end : (n m high turned low : ℕ) → Noted n high turned → n ≡ m → low ≤ 256 - turned → Within f m low high
   noted-end n m high turned low w e h j k q =
       let p : j < n = omega arith in
-      let d = w j p q in
-      (omega (arith, d .1), d .0)
+      (omega (arith, w .1 j p q), omega (arith, w .0 j p q))
 
 -- an event that does not stand there begins no production along which the stretch reads as a prefix
 pub outside-of : (l map : List ℕ) (events : List Event) (from to : ℕ) (f : ℕ → Bool)
@@ -319,10 +340,15 @@ module _ (map l : List ℕ) (f : TableFacts l) (b : Bytes l) (events : List Even
       (λ limit first n o w q. code-not map limit l f b first n events from to long room m o w ranges (ap (λ (s : Sought). codeBegins l s first) (sym eo) ∙ q))
       low high
 
-  pub outside-begins : (short : Bool) (two : Sought) → short ≡ eqb (from + 1) to
-      → (from + 1 < to → two ≡ soughtOf map (getD events (from + 1) zeroEvent)) → Within (begins l one short two) (eventCount l) low high
-      → Outside l map (drop from (take to events)) low high
-  outside-begins short two es et =
-      outside-of l map events from to (begins l one short two)
-      (λ limit first n o w q. begins-not map limit l f b first n events from to long room m o w ranges short two es et (ap (λ (s : Sought). begins l s short two first) (sym eo) ∙ q))
+  pub outside-begins : Within (begins l one) (eventCount l) low high → Outside l map (drop from (take to events)) low high
+  outside-begins =
+      outside-of l map events from to (begins l one)
+      (λ limit first n o w q. begins-not map limit l f b first n events from to long room m o w ranges (ap (λ (s : Sought). begins l s first) (sym eo) ∙ q))
+      low high
+
+  pub outside-pairs : (two : Sought) → from + 1 < to → two ≡ soughtOf map (getD events (from + 1) zeroEvent)
+      → Within (pairs l one two) (eventCount l) low high → Outside l map (drop from (take to events)) low high
+  outside-pairs two h et =
+      outside-of l map events from to (pairs l one two)
+      (λ limit first n o w q. pairs-not map limit l f b first n events from to long room m o w ranges two h et (ap (λ (s : Sought). pairs l s two first) (sym eo) ∙ q))
       low high

@@ -2,10 +2,10 @@
 -- (proofs/FilterLaws), so a production whose first event does not pass need not be walked.
 use Prim.Native.Nat.{ℕ, _+_, _/_, _≤_, _<_}
 use mathlib.Core.Path.{_≡_}
-use mathlib.Core.Bool.{Bool, true, cond, _&&_, _||_}
+use mathlib.Core.Bool.{Bool, true, cond, not, _&&_, _||_}
 use mathlib.Core.List.{List}
 use lib.Bits.{bitAnd}
-use lib.Dec.{eqb, leb, ltb}
+use lib.Dec.{eqb, leb}
 use Rattle.words.specs.Words.{wordAt}
 use Rattle.keyboard.specs.Folds.{fold, folded}
 use Rattle.model.specs.Keyboard.{firstKeysym, secondKeysym}
@@ -44,13 +44,15 @@ seems l i s = codeSeems (wordAt l (codesAt + i)) s && detailSeems (wordAt l (low
 unfoldable pub suits : List ℕ → ℕ → Sought → Bool
 suits l i s = eqb (bitAnd (s .state) (wordAt l (setsAt + i))) (wordAt l (setsAt + i))
 
--- it may begin a production for a stretch: one of a single event, or one whose second event meets the same event, if that
--- is counted, or else the next
-unfoldable pub begins : List ℕ → (one : Sought) (short : Bool) (two : Sought) → ℕ → Bool
-begins l one short two i =
-    seems l i one && suits l i one && (short || ltb 1 (wordAt l (countsAt + i)) || seems l (i + 1) two)
+-- it may begin a production for a stretch of one event
+unfoldable pub begins : List ℕ → Sought → ℕ → Bool
+begins l one i = seems l i one && suits l i one
 
--- the same by the code alone
+-- or for a longer one, whose second event meets the same event, if that is counted, or else the next
+unfoldable pub pairs : List ℕ → (one two : Sought) → ℕ → Bool
+pairs l one two i = seems l i one && (not (eqb (wordAt l (countsAt + i)) 1) || seems l (i + 1) two)
+
+-- it may begin one for any stretch, by the code alone
 unfoldable pub codeBegins : List ℕ → Sought → ℕ → Bool
 codeBegins l one i = codeSeems (wordAt l (codesAt + i)) one
 

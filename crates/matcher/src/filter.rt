@@ -7,7 +7,7 @@ ghost use Rattle.records.specs.Ranges.{EventRanges};
 ghost use Rattle.keyboard.specs.Maps.{mapNumbers};
 ghost use Rattle.tables.specs.Reading.{eventCount};
 ghost use Rattle.tables.specs.Whole.{whole};
-ghost use Rattle.matcher.specs.Filter.{other, soughtOf, codeSeems, detailSeems, seems, suits, begins, codeBegins, Within};
+ghost use Rattle.matcher.specs.Filter.{other, soughtOf, codeSeems, detailSeems, seems, suits, begins, pairs, codeBegins, Within};
 use crate::reader;
 use model::events::Event;
 
@@ -100,17 +100,26 @@ fn suits(table: &[u8], i: usize, s: Sought) -> bool
     s.state & set == set
 }
 
-// Whether event i may begin a production for a stretch that begins with `one` and, if it is not short, goes on with `two`.
-fn begins(table: &[u8], one: Sought, short: bool, two: Sought, i: usize) -> bool
+// Whether event i may begin a production for a stretch of one event.
+fn begins(table: &[u8], one: Sought, i: usize) -> bool
     requires { ⌜ (5904 ≤ length (now table)) × (i < 256) ⌝ }
-    ensures { λ r. ⌜ r ≡ begins (now (table .entry)) one short two i ⌝ }
+    ensures { λ r. ⌜ r ≡ begins (now (table .entry)) one i ⌝ }
 {
-    let counted = 1 < words::word_at(table, reader::COUNTS + i);
-    seems(table, i, one) & suits(table, i, one) & (short | counted | seems(table, i + 1, two))
+    seems(table, i, one) & suits(table, i, one)
+}
+
+// Whether event i may begin a production for a stretch that begins with `one` and goes on with `two`. In a whole table every
+// count is at least 1.
+fn pairs(table: &[u8], one: Sought, two: Sought, i: usize) -> bool
+    requires { ⌜ (5904 ≤ length (now table)) × (i < 256) ⌝ }
+    ensures { λ r. ⌜ r ≡ pairs (now (table .entry)) one two i ⌝ }
+{
+    let counted = words::word_at(table, reader::COUNTS + i) != 1;
+    seems(table, i, one) & (counted | seems(table, i + 1, two))
 }
 
 // Bounds of where the events stand with which a production may begin: none before `low`, and none from `high` on. They serve
-// for speed alone and may be wide; for one such event they are exact, and where there is none both are 0.
+// for speed alone and may be wide; for one such event the upper one is exact, and where there is none both are 0.
 pub struct Reach {
     pub low: u16,
     pub high: u16,
@@ -157,14 +166,14 @@ fn low_of(turned: u16) -> u16
 // so that the loop is compiled to vector instructions.
 pub fn reach_alone(table: &[u8], one: Sought) -> Reach
     requires { ⌜ whole (now table) ≡ true ⌝ }
-    ensures { λ r. ⌜ Within (begins (now (table .entry)) one true one) (eventCount (now (table .entry))) (r .low) (r .high) ⌝ }
+    ensures { λ r. ⌜ Within (begins (now (table .entry)) one) (eventCount (now (table .entry))) (r .low) (r .high) ⌝ }
 {
     let n = tables::read::event_count(table);
     let mut high: u16 = 0;
     let mut turned: u16 = 0;
     let mut i: usize = 0;
     while i < n {
-        let holds = begins(table, one, true, one, i);
+        let holds = begins(table, one, i);
         high = high | end_at(i, holds);
         turned = turned | turned_at(i, holds);
         i += 1;
@@ -175,25 +184,20 @@ pub fn reach_alone(table: &[u8], one: Sought) -> Reach
     }
 }
 
-// The same for a longer stretch.
+// The same for a longer stretch, without the lower bound: mostly there is no such event.
 pub fn reach_paired(table: &[u8], one: Sought, two: Sought) -> Reach
     requires { ⌜ whole (now table) ≡ true ⌝ }
-    ensures { λ r. ⌜ Within (begins (now (table .entry)) one false two) (eventCount (now (table .entry))) (r .low) (r .high) ⌝ }
+    ensures { λ r. ⌜ Within (pairs (now (table .entry)) one two) (eventCount (now (table .entry))) (r .low) (r .high) ⌝ }
 {
     let n = tables::read::event_count(table);
     let mut high: u16 = 0;
-    let mut turned: u16 = 0;
     let mut i: usize = 0;
     while i < n {
-        let holds = begins(table, one, false, two, i);
+        let holds = pairs(table, one, two, i);
         high = high | end_at(i, holds);
-        turned = turned | turned_at(i, holds);
         i += 1;
     }
-    Reach {
-        low: low_of(turned),
-        high,
-    }
+    Reach { low: 0, high }
 }
 
 // The same by the code alone: of events other than keys few stand in a table, and one word of each is read.

@@ -2,7 +2,7 @@
 ghost use mathlib.Core.Path.{_≡_};
 ghost use mathlib.Core.Bool.{true, cond};
 ghost use mathlib.Core.Option.{none};
-ghost use Prim.Native.Nat.{ℕ, _+_, _-_, _≤_, _<_};
+ghost use Prim.Native.Nat.{_+_, _-_, _≤_, _<_};
 ghost use lib.ListN.{length, getD, take, drop};
 ghost use Rattle.records.specs.Ranges.{EventRanges};
 ghost use Rattle.tables.specs.Reading.{eventCount, eventAt, decode};
@@ -255,7 +255,8 @@ fn scan(
 }
 
 // Where the productions begin that may have the stretch as a prefix. Most productions are on keys, and most keys have none: for
-// a key event every event of the table is tried at once, by its code, its detail and its modifiers.
+// a key event every event of the table is tried at once, by its code, its detail and the modifiers that it asks set or, where
+// the stretch goes on, by the codes and details of two events.
 fn reach_of(table: &[u8], map: &[u8], events: &[u8], from: usize, to: usize, one: Sought) -> Reach
     requires { ⌜ Ready (now table) (mapNumbers (now map)) (now events) to × (from < to) × (one ≡ soughtOf (mapNumbers (now map)) (getD (slotsOf (now events)) from zeroEvent)) ⌝ }
     ensures { λ r. ⌜ Outside (now (table .entry)) (mapNumbers (now (map .entry))) (drop from (take to (slotsOf (now (events .entry))))) (r .low) (r .high) ⌝ }

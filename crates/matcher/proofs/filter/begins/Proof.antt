@@ -1,14 +1,10 @@
 -- `matcher::filter::begins` meets its contract.
+use mathlib.Core.Path.{ap₂}
+use mathlib.Core.Bool.{_&&_}
 use Rattle.matcher.specs.Filter.{begins}
 use borrow.Author.Needs.{needs}
 use Rattle.matcher.proofs.filter.begins.Statement.{statement}
 use Rattle.matcher.proofs.filter.begins.Tie as tie
-
-add-word-at : tie.Need-add-word-at
-add-word-at c = search needs
-
-word-at-requires : tie.Need-word-at-requires
-word-at-requires c κs = search needs
 
 seems-requires : tie.Need-seems-requires
 seems-requires c κs = search needs
@@ -16,24 +12,9 @@ seems-requires c κs = search needs
 suits-requires : tie.Need-suits-requires
 suits-requires c κs = search needs
 
-add-seems : tie.Need-add-seems
-add-seems c = search needs
-
-seems-requires-2 : tie.Need-seems-requires-2
-seems-requires-2 c κs = search needs
-
 returns : tie.Need-returns
 unfolding begins
-returns c = rw (c .before .before .seems .ensures, c .before .suits .ensures, c .seems2 .ensures, c .before .before .before .word-at .ensures)
+returns c = ap₂ _&&_ (c .before .seems .ensures) (c .suits .ensures)
 
 pub begins-spec : {M : Type 1} → statement M
-begins-spec =
-    tie.close
-    (tie.spec
-    add-word-at
-    word-at-requires
-    seems-requires
-    suits-requires
-    add-seems
-    seems-requires-2
-    returns)
+begins-spec = tie.close (tie.spec seems-requires suits-requires returns)

@@ -1,17 +1,15 @@
 -- `matcher::walk::reach_of` meets its contract.
 use Prim.Native.Nat.{_+_, _<_}
 use native.Mathlib.Omega.{arith}
-use mathlib.Core.Path.{_≡_, sym, ap, _∙_}
-use mathlib.Core.Bool.{true, false}
+use mathlib.Core.Path.{_≡_, ap, _∙_}
 use denote.Ref.{now}
-use borrow.Author.Tests.{eq-eqb, ne-eqb}
 use lib.ListN.{getD}
 use Rattle.keyboard.specs.Maps.{mapNumbers}
 use Rattle.matcher.specs.State.{zeroEvent, slotsOf}
 use Rattle.matcher.specs.Filter.{soughtOf}
 use Rattle.matcher.proofs.TableFacts.{table-facts}
 use Rattle.matcher.proofs.SlotLaws.{length-slots, in-slot}
-use Rattle.matcher.proofs.FilterLaws.{outside-code, outside-begins}
+use Rattle.matcher.proofs.FilterLaws.{outside-code, outside-begins, outside-pairs}
 use Rattle.matcher.proofs.walk.reach_of.Statement.{statement}
 use Rattle.matcher.proofs.walk.reach_of.Tie as tie
 
@@ -52,10 +50,8 @@ returns-2 c =
     let a = c .before .before .before .before .before .before .before .args in
     let p = c .before .before .before .before .before .before .before .pre in
     let l = now (a .table) in
-    let e : a .from + 1 ≡ a .to = c .before .if2 .taken in
     outside-begins (mapNumbers (now (a .map))) l (table-facts l (p .0 .isWhole)) (λ k. omega (arith, c .before .before .before .before .before .before .shared-slice-known .given k)) (slotsOf (now (a .events))) (a .from) (a .to)
-    (length-slots (now (a .events))) (p .0 .room) (p .1) (p .0 .ranges) (a .one) (p .2) (c .reach-alone .result .low) (c .reach-alone .result .high)
-    true (a .one) (sym (eq-eqb (a .from + 1) (a .to) e)) (λ h. absurd (omega arith)) (c .reach-alone .ensures)
+    (length-slots (now (a .events))) (p .0 .room) (p .1) (p .0 .ranges) (a .one) (p .2) (c .reach-alone .result .low) (c .reach-alone .result .high) (c .reach-alone .ensures)
 
 add-event-at : tie.Need-add-event-at
 add-event-at c = omega (arith, c .before .before .before .before .before .before .pre .0 .room, c .before .before .before .before .before .before .pre .1)
@@ -74,9 +70,9 @@ returns-3 c =
     let a = c .before .before .before .before .before .before .before .before .before .args in
     let p = c .before .before .before .before .before .before .before .before .before .pre in
     let l = now (a .table) in
-    outside-begins (mapNumbers (now (a .map))) l (table-facts l (p .0 .isWhole)) (λ k. omega (arith, c .before .before .before .before .before .before .before .before .shared-slice-known .given k)) (slotsOf (now (a .events))) (a .from) (a .to)
+    outside-pairs (mapNumbers (now (a .map))) l (table-facts l (p .0 .isWhole)) (λ k. omega (arith, c .before .before .before .before .before .before .before .before .shared-slice-known .given k)) (slotsOf (now (a .events))) (a .from) (a .to)
     (length-slots (now (a .events))) (p .0 .room) (p .1) (p .0 .ranges) (a .one) (p .2) (c .reach-paired .result .low) (c .reach-paired .result .high)
-    false (c .before .sought-of .result) (sym (ne-eqb (a .from + 1) (a .to) (c .before .before .before .if2 .left))) (λ h. second-is (c .before)) (c .reach-paired .ensures)
+    (c .before .sought-of .result) (next (c .before .before .before)) (second-is (c .before)) (c .reach-paired .ensures)
 
 pub reach-of-spec : {M : Type 1} → statement M
 reach-of-spec =
