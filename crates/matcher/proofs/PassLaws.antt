@@ -12,7 +12,7 @@ use lib.ListN.{length, getD, take, drop}
 use lib.Seq.{slice-cons, slice-empty}
 use Rattle.words.specs.Words.{wordAt}
 use Rattle.words.specs.Runs.{run, total}
-use Rattle.words.proofs.RunLaws.{total-more}
+use Rattle.words.proofs.RunLaws.{total-more, total-add, total-same, total-part}
 use Rattle.model.specs.Lists.{any, earliest}
 use Rattle.model.specs.Tables.{Production, Table}
 use Rattle.model.specs.Counts.{Element, expanded, sequence}
@@ -226,6 +226,47 @@ skipped-step l low at p size s h d e =
     go q k false r =
         let n : q ≡ p → ⊥ = eqb-false q p r in
         s .over q (omega arith)
+
+-- several productions have as many events as lie between
+events-span : (l : List ℕ) (p n : ℕ) → eventsFrom l (p + n) ≡ eventsFrom l p + total (productionEvents l) p n
+unfolding eventsFrom productionEvents
+events-span l p n =
+    total-add (wordAt l) productionEventsAt p n
+    ∙ ap (λ (t : ℕ). total (wordAt l) productionEventsAt p + t) (total-same (wordAt l) (productionEvents l) (productionEventsAt + p) p n shifted)
+  where
+    shifted : (i : ℕ) → i < n → wordAt l (productionEventsAt + p + i) ≡ wordAt l (productionEventsAt + (p + i))
+    shifted i h = let e : productionEventsAt + p + i ≡ productionEventsAt + (p + i) = omega arith in ap (wordAt l) e
+
+events-past : (l : List ℕ) (at p n size : ℕ) → at ≡ eventsFrom l p → size ≡ total (productionEvents l) p n → at + size ≡ eventsFrom l (p + n)
+events-past l at p n size q e = rw (q, e) (sym (events-span l p n))
+
+module _ (l : List ℕ) (f : TableFacts l) where
+  events-most : (p : ℕ) → p ≤ productionCount l → eventsFrom l p ≤ 256
+  events-most p h =
+      let e : p + (productionCount l - p) ≡ productionCount l = omega arith in
+      let s : eventsFrom l (productionCount l) ≡ eventsFrom l p + total (productionEvents l) p (productionCount l - p)
+      = ap (eventsFrom l) (sym e) ∙ events-span l p (productionCount l - p) in
+      omega (arith, f .sum, f .events)
+
+  pub past-most : (at p n size : ℕ) → at ≡ eventsFrom l p → p + n ≤ productionCount l → size ≡ total (productionEvents l) p n → at + size ≤ 256
+  past-most at p n size q m e = omega (arith, events-past l at p n size q e, events-most (p + n) m)
+
+  -- one more of them
+  pub span-most : (p n : ℕ) → p + n < productionCount l → total (productionEvents l) p n + productionEvents l (p + n) ≤ 256
+  span-most p n h = omega (arith, events-span l p n, f .within (p + n) h, f .events)
+
+  -- each has an event, so it begins before the next
+  events-less : (q p : ℕ) → q < p → p ≤ productionCount l → eventsFrom l q < eventsFrom l p
+  unfolding eventsFrom productionEvents
+  events-less q p h m = omega (arith, total-part (wordAt l) productionEventsAt q p h, f .some q (omega arith))
+
+  pub skipped-leap : (low at p n size : ℕ) → Skipped l low at p → p + n ≤ productionCount l → size ≡ total (productionEvents l) p n
+      → at + size ≤ low → Skipped l low (at + size) (p + n)
+  skipped-leap low at p n size s m e h =
+      record { most = m; place = there; over = λ q k. omega (arith, events-less q (p + n) k m, there) }
+    where
+      there : at + size ≡ eventsFrom l (p + n)
+      there = events-past l at p n size (s .place) e
 
 -- where the pass stands: at production p, whose events begin at `at`
 module _ (map : List ℕ) (limit : ℕ) (l : List ℕ) (xs : List Event) where

@@ -5,7 +5,9 @@ ghost use lib.ListN.{length};
 ghost use Rattle.tables.specs.Reading.{eventAt, isFlag};
 ghost use Rattle.matcher.specs.Walk.{flagsIn, valueIn};
 
-// The first word of each field's section.
+// The first word of each section: how many events a production has, and the fields of an event.
+
+pub const PRODUCTION_EVENTS: usize = 8;
 
 pub const CODES: usize = 136;
 

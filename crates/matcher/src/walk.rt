@@ -5,9 +5,9 @@ ghost use mathlib.Core.Option.{none};
 ghost use Prim.Native.Nat.{_+_, _-_, _≤_, _<_};
 ghost use lib.ListN.{length, getD, take, drop};
 ghost use Rattle.records.specs.Ranges.{EventRanges};
-ghost use Rattle.tables.specs.Reading.{eventCount, eventAt, decode};
+ghost use Rattle.tables.specs.Reading.{productionCount, productionEvents, eventCount, eventAt, decode};
 ghost use Rattle.tables.specs.Whole.{whole};
-ghost use Rattle.words.specs.Runs.{run};
+ghost use Rattle.words.specs.Runs.{run, total};
 ghost use Rattle.model.specs.Counts.{expanded};
 ghost use Rattle.model.specs.Lists.{any};
 ghost use Rattle.model.specs.Matching.{hasType, readingOf};
@@ -180,14 +180,48 @@ fn follow(
     }
 }
 
+// How many events sixteen productions have, from production p on. They are so few that 16 bits hold the sum, and it is
+// compiled to vector instructions.
+fn sixteen(table: &[u8], p: usize) -> usize
+    requires { ⌜ (whole (now table) ≡ true) × (p + 16 ≤ productionCount (now table)) ⌝ }
+    ensures { λ r. ⌜ r ≡ total (productionEvents (now (table .entry))) p 16 ⌝ }
+{
+    let mut sum: u16 = 0;
+    let mut i: usize = 0;
+    while i < 16 {
+        sum += words::word_at(table, reader::PRODUCTION_EVENTS + (p + i));
+        i += 1;
+    }
+    sum as usize
+}
+
+// A production not far before the first whose events do not begin before `low`: sixteen are stepped over at a time.
+fn leap(table: &[u8], n: usize, low: usize) -> Spot
+    requires { ⌜ (whole (now table) ≡ true) × (n ≡ productionCount (now table)) ⌝ }
+    ensures { λ r. ⌜ Skipped (now (table .entry)) low (r .at) (r .p) ⌝ }
+{
+    let mut at: usize = 0;
+    let mut p: usize = 0;
+    while p + 16 <= n {
+        let next = at + sixteen(table, p);
+        if low < next {
+            return Spot { at, p };
+        }
+        at = next;
+        p += 16;
+    }
+    Spot { at, p }
+}
+
 // The first production whose events do not begin before `low`.
 fn skip(table: &[u8], low: usize) -> Spot
     requires { ⌜ whole (now table) ≡ true ⌝ }
     ensures { λ r. ⌜ Skipped (now (table .entry)) low (r .at) (r .p) ⌝ }
 {
     let n = tables::read::production_count(table);
-    let mut at: usize = 0;
-    let mut p: usize = 0;
+    let spot = leap(table, n, low);
+    let mut at = spot.at;
+    let mut p = spot.p;
     while p < n {
         if low <= at {
             return Spot { at, p };
