@@ -10,6 +10,7 @@ ghost use Rattle.tables.specs.Whole.{whole};
 ghost use Rattle.matcher.specs.Filter.{other, soughtOf, codeSeems, detailSeems, seems, suits, begins, pairs, codeBegins, Within};
 use crate::reader;
 use model::events::Event;
+use tables::places;
 
 // What an event asks of the table's: its code, its state, and its detail or, of a key, the keysyms of its pair, folded.
 pub struct Sought {
@@ -73,8 +74,8 @@ fn seems(table: &[u8], i: usize, s: Sought) -> bool
     requires { ⌜ (5904 ≤ length (now table)) × (i ≤ 256) ⌝ }
     ensures { λ r. ⌜ r ≡ seems (now (table .entry)) i s ⌝ }
 {
-    let own = words::word_at(table, reader::CODES + i);
-    let low = words::word_at(table, reader::LOWS + i);
+    let own = words::word_at(table, places::CODES + i);
+    let low = words::word_at(table, places::LOWS + i);
     code_seems(own, s) & detail_seems(low, s)
 }
 
@@ -83,11 +84,11 @@ pub fn seems_one(table: &[u8], i: usize, s: Sought) -> bool
     requires { ⌜ (5904 ≤ length (now table)) × (i ≤ 256) ⌝ }
     ensures { λ r. ⌜ r ≡ seems (now (table .entry)) i s ⌝ }
 {
-    let own = words::word_at(table, reader::CODES + i);
+    let own = words::word_at(table, places::CODES + i);
     if !code_seems(own, s) {
         return false;
     }
-    let low = words::word_at(table, reader::LOWS + i);
+    let low = words::word_at(table, places::LOWS + i);
     detail_seems(low, s)
 }
 
@@ -114,7 +115,7 @@ fn pairs(table: &[u8], one: Sought, two: Sought, i: usize) -> bool
     requires { ⌜ (5904 ≤ length (now table)) × (i < 256) ⌝ }
     ensures { λ r. ⌜ r ≡ pairs (now (table .entry)) one two i ⌝ }
 {
-    let counted = words::word_at(table, reader::COUNTS + i) != 1;
+    let counted = words::word_at(table, places::COUNTS + i) != 1;
     seems(table, i, one) & (counted | seems(table, i + 1, two))
 }
 
@@ -210,7 +211,7 @@ pub fn reach_of_code(table: &[u8], one: Sought) -> Reach
     let mut turned: u16 = 0;
     let mut i: usize = 0;
     while i < n {
-        let holds = code_seems(words::word_at(table, reader::CODES + i), one);
+        let holds = code_seems(words::word_at(table, places::CODES + i), one);
         high = high | end_at(i, holds);
         turned = turned | turned_at(i, holds);
         i += 1;

@@ -1,61 +1,44 @@
-// Single words of the events of a table, at the places that docs/LAYOUT.md gives: a production is mostly ruled out by one.
+// Single words of the events of a table: a production is mostly ruled out by one.
+use tables::places;
 ghost use mathlib.Core.Path.{_≡_};
 ghost use Prim.Native.Nat.{_≤_, _<_};
 ghost use lib.ListN.{length};
 ghost use Rattle.tables.specs.Reading.{eventAt, isFlag};
 ghost use Rattle.matcher.specs.Walk.{flagsIn, valueIn};
 
-// The first word of each section: how many events a production has, and the fields of an event.
-
-pub const PRODUCTION_EVENTS: usize = 8;
-
-pub const CODES: usize = 136;
-
-pub const COUNTS: usize = 392;
-
-const SETS: usize = 648;
-
-const CLEARS: usize = 904;
-
-const FLAGS: usize = 1160;
-
-pub const LOWS: usize = 1416;
-
-const HIGHS: usize = 1672;
-
 pub fn code_at(table: &[u8], i: usize) -> u8
     requires { ⌜ (5904 ≤ length (now table)) × (i < 256) ⌝ }
     ensures { λ r. ⌜ r ≡ eventAt (now (table .entry)) i .code ⌝ }
 {
-    (words::word_at(table, CODES + i) % 256) as u8
+    (words::word_at(table, places::CODES + i) % 256) as u8
 }
 
 pub fn count_at(table: &[u8], i: usize) -> u8
     requires { ⌜ (5904 ≤ length (now table)) × (i < 256) ⌝ }
     ensures { λ r. ⌜ r ≡ eventAt (now (table .entry)) i .count ⌝ }
 {
-    (words::word_at(table, COUNTS + i) % 256) as u8
+    (words::word_at(table, places::COUNTS + i) % 256) as u8
 }
 
 pub fn set_at(table: &[u8], i: usize) -> u16
     requires { ⌜ (5904 ≤ length (now table)) × (i < 256) ⌝ }
     ensures { λ r. ⌜ r ≡ eventAt (now (table .entry)) i .set ⌝ }
 {
-    words::word_at(table, SETS + i)
+    words::word_at(table, places::SETS + i)
 }
 
 pub fn clear_at(table: &[u8], i: usize) -> u16
     requires { ⌜ (5904 ≤ length (now table)) × (i < 256) ⌝ }
     ensures { λ r. ⌜ r ≡ eventAt (now (table .entry)) i .clear ⌝ }
 {
-    words::word_at(table, CLEARS + i)
+    words::word_at(table, places::CLEARS + i)
 }
 
 pub fn flags_at(table: &[u8], i: usize) -> u16
     requires { ⌜ (5904 ≤ length (now table)) × (i < 256) ⌝ }
     ensures { λ r. ⌜ r ≡ flagsIn (now (table .entry)) i ⌝ }
 {
-    words::word_at(table, FLAGS + i)
+    words::word_at(table, places::FLAGS + i)
 }
 
 // The detail that is asked for, of two words.
@@ -63,8 +46,8 @@ pub fn value_at(table: &[u8], i: usize) -> u32
     requires { ⌜ (5904 ≤ length (now table)) × (i < 256) ⌝ }
     ensures { λ r. ⌜ r ≡ valueIn (now (table .entry)) i ⌝ }
 {
-    let low = words::word_at(table, LOWS + i) as u32;
-    let high = words::word_at(table, HIGHS + i) as u32;
+    let low = words::word_at(table, places::LOWS + i) as u32;
+    let high = words::word_at(table, places::HIGHS + i) as u32;
     low + 65536 * high
 }
 

@@ -22,6 +22,7 @@ use crate::filter::Sought;
 use crate::reader;
 use crate::slots;
 use model::events::Event;
+use tables::places;
 
 // How a stretch of events and the sequence of a production compare.
 pub enum Followed {
@@ -189,7 +190,7 @@ fn sixteen(table: &[u8], p: usize) -> usize
     let mut sum: u16 = 0;
     let mut i: usize = 0;
     while i < 16 {
-        sum += words::word_at(table, reader::PRODUCTION_EVENTS + (p + i));
+        sum += words::word_at(table, places::PRODUCTION_EVENTS + (p + i));
         i += 1;
     }
     sum as usize
@@ -370,7 +371,7 @@ fn has_code(table: &[u8], n: usize, code: u16) -> bool
     let mut hit = false;
     let mut i: usize = 0;
     while i < n {
-        hit = hit | (words::word_at(table, reader::CODES + i) == code);
+        hit = hit | (words::word_at(table, places::CODES + i) == code);
         i += 1;
     }
     hit
@@ -385,8 +386,8 @@ fn has_either(table: &[u8], n: usize, code: u16, other: u16) -> bool
     let mut hit = false;
     let mut i: usize = 0;
     while i < n {
-        let own = words::word_at(table, reader::CODES + i);
-        let counted = words::word_at(table, reader::COUNTS + i) != 1;
+        let own = words::word_at(table, places::CODES + i);
+        let counted = words::word_at(table, places::COUNTS + i) != 1;
         hit = hit | (own == code) | ((own == other) & counted);
         i += 1;
     }

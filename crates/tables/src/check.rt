@@ -1,6 +1,7 @@
 // Which bytes are a whole table. Each loop goes over the used words of a few sections, or over the unused words of three or four,
 // with no early exit and in numbers of 16 bits, so that it is compiled to vector instructions that take eight words at a time.
 // The sums that the header gives are taken in the same loops, of each word its lower byte: a word in range has no more.
+use crate::places;
 ghost use mathlib.Core.Path.{_≡_};
 ghost use mathlib.Core.Bool.{true, _&&_};
 ghost use lib.Dec.{leb};
@@ -35,17 +36,17 @@ fn header_ok(l: &[u8]) -> bool
     ensures { λ r. ⌜ r ≡ headerOk (now (l .entry)) ⌝ }
 {
     let texts = texts_ok(
-        words::word_at(l, 0),
-        words::word_at(l, 1),
-        words::word_at(l, 2),
-        words::word_at(l, 3),
+        words::word_at(l, places::DIRECTIVE),
+        words::word_at(l, places::MERGED),
+        words::word_at(l, places::FIRST_LENGTH),
+        words::word_at(l, places::SECOND_LENGTH),
     );
     texts
         & counts_ok(
-            words::word_at(l, 4),
-            words::word_at(l, 5),
-            words::word_at(l, 6),
-            words::word_at(l, 7),
+            words::word_at(l, places::PRODUCTIONS),
+            words::word_at(l, places::EVENTS),
+            words::word_at(l, places::CALLS),
+            words::word_at(l, places::PARAMETERS),
         )
 }
 
@@ -55,45 +56,75 @@ fn productions_rest(l: &[u8], n: usize) -> bool
     requires { ⌜ (5904 ≤ length (now l)) × (n ≤ 64) ⌝ }
     ensures { λ r. ⌜ r ≡ productionsRest (now (l .entry)) n ⌝ }
 {
-    words::zero_in_two(l, 8 + n, 72 + n, 64 - n)
+    words::zero_in_two(
+        l,
+        places::PRODUCTION_EVENTS + n,
+        places::PRODUCTION_CALLS + n,
+        64 - n,
+    )
 }
 
 fn tests_rest(l: &[u8], n: usize) -> bool
     requires { ⌜ (5904 ≤ length (now l)) × (n ≤ 256) ⌝ }
     ensures { λ r. ⌜ r ≡ testsRest (now (l .entry)) n ⌝ }
 {
-    words::zero_in_four(l, 136 + n, 392 + n, 648 + n, 904 + n, 256 - n)
+    words::zero_in_four(
+        l,
+        places::CODES + n,
+        places::COUNTS + n,
+        places::SETS + n,
+        places::CLEARS + n,
+        256 - n,
+    )
 }
 
 fn details_rest(l: &[u8], n: usize) -> bool
     requires { ⌜ (5904 ≤ length (now l)) × (n ≤ 256) ⌝ }
     ensures { λ r. ⌜ r ≡ detailsRest (now (l .entry)) n ⌝ }
 {
-    words::zero_in_three(l, 1160 + n, 1416 + n, 1672 + n, 256 - n)
+    words::zero_in_three(
+        l,
+        places::FLAGS + n,
+        places::LOWS + n,
+        places::HIGHS + n,
+        256 - n,
+    )
 }
 
 fn calls_rest(l: &[u8], n: usize) -> bool
     requires { ⌜ (5904 ≤ length (now l)) × (n ≤ 128) ⌝ }
     ensures { λ r. ⌜ r ≡ callsRest (now (l .entry)) n ⌝ }
 {
-    words::zero_in_four(l, 1928 + n, 2056 + n, 2184 + n, 2312 + n, 128 - n)
+    words::zero_in_four(
+        l,
+        places::MARKS + n,
+        places::NAME_STARTS + n,
+        places::NAME_LENGTHS + n,
+        places::CALL_PARAMETERS + n,
+        128 - n,
+    )
 }
 
 fn parameters_rest(l: &[u8], n: usize) -> bool
     requires { ⌜ (5904 ≤ length (now l)) × (n ≤ 256) ⌝ }
     ensures { λ r. ⌜ r ≡ parametersRest (now (l .entry)) n ⌝ }
 {
-    words::zero_in_two(l, 2440 + n, 2696 + n, 256 - n)
+    words::zero_in_two(
+        l,
+        places::PARAMETER_STARTS + n,
+        places::PARAMETER_LENGTHS + n,
+        256 - n,
+    )
 }
 
 fn unused_ok(l: &[u8]) -> bool
     requires { ⌜ (5904 ≤ length (now l)) × ((wordAt (now l) 4 ≤ 64) × (wordAt (now l) 5 ≤ 256) × (wordAt (now l) 6 ≤ 128) × (wordAt (now l) 7 ≤ 256)) ⌝ }
     ensures { λ r. ⌜ r ≡ unusedOk (now (l .entry)) ⌝ }
 {
-    let productions = words::word_at(l, 4) as usize;
-    let events = words::word_at(l, 5) as usize;
-    let calls = words::word_at(l, 6) as usize;
-    let parameters = words::word_at(l, 7) as usize;
+    let productions = words::word_at(l, places::PRODUCTIONS) as usize;
+    let events = words::word_at(l, places::EVENTS) as usize;
+    let calls = words::word_at(l, places::CALLS) as usize;
+    let parameters = words::word_at(l, places::PARAMETERS) as usize;
     productions_rest(l, productions)
         & tests_rest(l, events)
         & details_rest(l, events)
@@ -141,16 +172,16 @@ fn events_tally(l: &[u8], n: usize) -> EventTally
     let mut joined: u16 = 0;
     let mut i: usize = 0;
     while i < n {
-        let count = words::word_at(l, 392 + i);
+        let count = words::word_at(l, places::COUNTS + i);
         ok = ok
             & event_ok(
-                words::word_at(l, 136 + i),
+                words::word_at(l, places::CODES + i),
                 count,
-                words::word_at(l, 648 + i),
-                words::word_at(l, 904 + i),
-                words::word_at(l, 1160 + i),
-                words::word_at(l, 1416 + i),
-                words::word_at(l, 1672 + i),
+                words::word_at(l, places::SETS + i),
+                words::word_at(l, places::CLEARS + i),
+                words::word_at(l, places::FLAGS + i),
+                words::word_at(l, places::LOWS + i),
+                words::word_at(l, places::HIGHS + i),
             );
         counts += count % 256;
         joined = joined | count;
@@ -197,20 +228,20 @@ fn marked_calls(l: &[u8], n: usize) -> Tally
     requires { ⌜ (5904 ≤ length (now l)) × (n ≤ 128) ⌝ }
     ensures { λ r. ⌜ (r .ok ≡ every (callOk (now (l .entry))) 0 n) × (r .total ≡ total (lowAt (now (l .entry))) callParametersAt n) ⌝ }
 {
-    let merged = words::word_at(l, 1);
-    let first = words::word_at(l, 2);
-    let second = words::word_at(l, 3);
+    let merged = words::word_at(l, places::MERGED);
+    let first = words::word_at(l, places::FIRST_LENGTH);
+    let second = words::word_at(l, places::SECOND_LENGTH);
     let mut ok = true;
     let mut parameters: u16 = 0;
     let mut i: usize = 0;
     while i < n {
-        let mark = words::word_at(l, 1928 + i);
-        let count = words::word_at(l, 2312 + i);
+        let mark = words::word_at(l, places::MARKS + i);
+        let count = words::word_at(l, places::CALL_PARAMETERS + i);
         ok = ok
             & call_ok(
                 mark,
-                words::word_at(l, 2056 + i),
-                words::word_at(l, 2184 + i),
+                words::word_at(l, places::NAME_STARTS + i),
+                words::word_at(l, places::NAME_LENGTHS + i),
                 count,
                 merged,
                 text_of(mark, first, second),
@@ -230,16 +261,16 @@ fn plain_calls(l: &[u8], n: usize) -> Tally
     requires { ⌜ ((5904 ≤ length (now l)) × (n ≤ 128)) × (wordAt (now l) 1 ≡ 0) ⌝ }
     ensures { λ r. ⌜ (r .ok ≡ every (callOk (now (l .entry))) 0 n) × (r .total ≡ total (lowAt (now (l .entry))) callParametersAt n) ⌝ }
 {
-    let first = words::word_at(l, 2);
+    let first = words::word_at(l, places::FIRST_LENGTH);
     let mut marks: u16 = 0;
     let mut faults: u16 = 0;
     let mut parameters: u16 = 0;
     let mut i: usize = 0;
     while i < n {
-        let count = words::word_at(l, 2312 + i);
-        let start = words::word_at(l, 2056 + i);
-        let len = words::word_at(l, 2184 + i);
-        marks = marks | words::word_at(l, 1928 + i);
+        let count = words::word_at(l, places::CALL_PARAMETERS + i);
+        let start = words::word_at(l, places::NAME_STARTS + i);
+        let len = words::word_at(l, places::NAME_LENGTHS + i);
+        marks = marks | words::word_at(l, places::MARKS + i);
         faults = faults
             | excess(count, 8)
             | excess(start, first)
@@ -258,7 +289,7 @@ fn calls_tally(l: &[u8], n: usize) -> Tally
     requires { ⌜ (5904 ≤ length (now l)) × (n ≤ 128) ⌝ }
     ensures { λ r. ⌜ (r .ok ≡ every (callOk (now (l .entry))) 0 n) × (r .total ≡ total (lowAt (now (l .entry))) callParametersAt n) ⌝ }
 {
-    if words::word_at(l, 1) == 0 {
+    if words::word_at(l, places::MERGED) == 0 {
         return plain_calls(l, n);
     }
     marked_calls(l, n)
@@ -273,8 +304,8 @@ fn parameters_in(l: &[u8], text: u16, from: usize, n: usize) -> bool
     let mut i: usize = 0;
     while i < n {
         let at = from + i;
-        let start = words::word_at(l, 2440 + at);
-        let len = words::word_at(l, 2696 + at);
+        let start = words::word_at(l, places::PARAMETER_STARTS + at);
+        let len = words::word_at(l, places::PARAMETER_LENGTHS + at);
         faults = faults | excess(start, text) | excess(len, excess(text, start));
         i += 1;
     }
@@ -298,14 +329,14 @@ fn parameters_ok(l: &[u8], n: usize) -> bool
     requires { ⌜ (5904 ≤ length (now l)) × (n ≤ 128) × (total (wordAt (now l)) callParametersAt n ≤ 256) ⌝ }
     ensures { λ r. ⌜ r ≡ every (parametersOk (now (l .entry))) 0 n ⌝ }
 {
-    let first = words::word_at(l, 2);
-    let second = words::word_at(l, 3);
+    let first = words::word_at(l, places::FIRST_LENGTH);
+    let second = words::word_at(l, places::SECOND_LENGTH);
     let mut ok = true;
     let mut from: usize = 0;
     let mut i: usize = 0;
     while i < n {
-        let text = text_of(words::word_at(l, 1928 + i), first, second);
-        let count = words::word_at(l, 2312 + i) as usize;
+        let text = text_of(words::word_at(l, places::MARKS + i), first, second);
+        let count = words::word_at(l, places::CALL_PARAMETERS + i) as usize;
         ok = ok & parameters_in(l, text, from, count);
         from += count;
         i += 1;
@@ -332,7 +363,7 @@ fn texts_in_turn(l: &[u8], before: u16, after: u16, k: usize, parameters: usize)
     requires { ⌜ ((5904 ≤ length (now l)) × (k ≤ 128)) × ((total (lowAt (now l)) callParametersAt k ≤ parameters) × (parameters ≤ 256)) ⌝ }
     ensures { λ r. ⌜ r ≡ inTurn (now (l .entry)) before after (total (lowAt (now (l .entry))) callParametersAt k) parameters ⌝ }
 {
-    let p = low_sum(l, 2312, k) as usize;
+    let p = low_sum(l, places::CALL_PARAMETERS, k) as usize;
     parameters_within(l, before, 0, p) & parameters_within(l, after, p, parameters - p)
 }
 
@@ -343,13 +374,13 @@ fn merged_ok(l: &[u8], n: usize, parameters: usize) -> bool
     requires { ⌜ ((5904 ≤ length (now l)) × (n ≤ 128)) × ((total (wordAt (now l)) callParametersAt n ≡ parameters) × (parameters ≤ 256) × (every (callOk (now l)) 0 n ≡ true) × (wordAt (now l) 1 ≤ 1)) ⌝ }
     ensures { λ r. ⌜ r ≡ every (parametersOk (now (l .entry))) 0 n ⌝ }
 {
-    let first = words::word_at(l, 2);
-    let second = words::word_at(l, 3);
-    let seconds = low_sum(l, 1928, n) as usize;
-    if low_sum(l, 1928, seconds) as usize == seconds {
+    let first = words::word_at(l, places::FIRST_LENGTH);
+    let second = words::word_at(l, places::SECOND_LENGTH);
+    let seconds = low_sum(l, places::MARKS, n) as usize;
+    if low_sum(l, places::MARKS, seconds) as usize == seconds {
         return texts_in_turn(l, second, first, seconds, parameters);
     }
-    if low_sum(l, 1928, n - seconds) == 0 {
+    if low_sum(l, places::MARKS, n - seconds) == 0 {
         return texts_in_turn(l, first, second, n - seconds, parameters);
     }
     parameters_ok(l, n)
@@ -360,8 +391,8 @@ fn spans_ok(l: &[u8], n: usize, parameters: usize) -> bool
     requires { ⌜ ((5904 ≤ length (now l)) × (n ≤ 128)) × ((total (wordAt (now l)) callParametersAt n ≡ parameters) × (parameters ≤ 256) × (every (callOk (now l)) 0 n ≡ true) × (wordAt (now l) 1 ≤ 1)) ⌝ }
     ensures { λ r. ⌜ r ≡ every (parametersOk (now (l .entry))) 0 n ⌝ }
 {
-    if words::word_at(l, 1) == 0 {
-        return parameters_within(l, words::word_at(l, 2), 0, parameters);
+    if words::word_at(l, places::MERGED) == 0 {
+        return parameters_within(l, words::word_at(l, places::FIRST_LENGTH), 0, parameters);
     }
     merged_ok(l, n, parameters)
 }
@@ -390,7 +421,10 @@ fn sizes(l: &[u8], from: usize, n: usize) -> u32
     let mut i: usize = 0;
     while i < n {
         let at = from + i;
-        s += size_of(words::word_at(l, 136 + at), words::word_at(l, 392 + at));
+        s += size_of(
+            words::word_at(l, places::CODES + at),
+            words::word_at(l, places::COUNTS + at),
+        );
         i += 1;
     }
     s
@@ -404,9 +438,11 @@ fn productions_ok(l: &[u8], n: usize) -> bool
     let mut from: usize = 0;
     let mut p: usize = 0;
     while p < n {
-        let events = words::word_at(l, 8 + p) as usize;
+        let events = words::word_at(l, places::PRODUCTION_EVENTS + p) as usize;
         ok = ok
-            & ((1 <= events) & (words::word_at(l, 72 + p) <= 8) & (sizes(l, from, events) <= 24));
+            & ((1 <= events)
+                & (words::word_at(l, places::PRODUCTION_CALLS + p) <= 8)
+                & (sizes(l, from, events) <= 24));
         from += events;
         p += 1;
     }
@@ -430,8 +466,8 @@ fn productions_tally(l: &[u8], n: usize, most: u16) -> Sums
     let mut calls: u16 = 0;
     let mut p: usize = 0;
     while p < n {
-        let own = words::word_at(l, 8 + p);
-        let made = words::word_at(l, 72 + p);
+        let own = words::word_at(l, places::PRODUCTION_EVENTS + p);
+        let made = words::word_at(l, places::PRODUCTION_CALLS + p);
         faults = faults | excess(1, own) | excess(own, most) | excess(made, 8);
         events += own % 256;
         calls += made % 256;
@@ -466,10 +502,10 @@ fn exact_ok(l: &[u8], n: usize, events: usize, calls: usize) -> bool
     requires { ⌜ ((5904 ≤ length (now l)) × (n ≤ 64)) × ((events ≤ 256) × (calls ≤ 128)) ⌝ }
     ensures { λ r. ⌜ r ≡ sequencesOk (now (l .entry)) n events calls ⌝ }
 {
-    if words::sum(l, 8, n) != events as u32 {
+    if words::sum(l, places::PRODUCTION_EVENTS, n) != events as u32 {
         return false;
     }
-    if words::sum(l, 72, n) != calls as u32 {
+    if words::sum(l, places::PRODUCTION_CALLS, n) != calls as u32 {
         return false;
     }
     productions_ok(l, n) & (sizes(l, 0, events) <= 256)
@@ -495,7 +531,10 @@ fn low_sizes(l: &[u8], n: usize) -> u16
     let mut s: u16 = 0;
     let mut i: usize = 0;
     while i < n {
-        s += low_size(words::word_at(l, 136 + i), words::word_at(l, 392 + i));
+        s += low_size(
+            words::word_at(l, places::CODES + i),
+            words::word_at(l, places::COUNTS + i),
+        );
         i += 1;
     }
     s
@@ -537,10 +576,10 @@ fn entries_ok(l: &[u8]) -> bool
     requires { ⌜ ((5904 ≤ length (now l)) × (wordAt (now l) 1 ≤ 1)) × ((wordAt (now l) 4 ≤ 64) × (wordAt (now l) 5 ≤ 256) × (wordAt (now l) 6 ≤ 128) × (wordAt (now l) 7 ≤ 256)) ⌝ }
     ensures { λ r. ⌜ r ≡ (sumsOk (now (l .entry)) && entriesOk (now (l .entry))) ⌝ }
 {
-    let productions = words::word_at(l, 4) as usize;
-    let events = words::word_at(l, 5) as usize;
-    let calls = words::word_at(l, 6) as usize;
-    let parameters = words::word_at(l, 7);
+    let productions = words::word_at(l, places::PRODUCTIONS) as usize;
+    let events = words::word_at(l, places::EVENTS) as usize;
+    let calls = words::word_at(l, places::CALLS) as usize;
+    let parameters = words::word_at(l, places::PARAMETERS);
     let e = events_tally(l, events);
     if !e.ok {
         return false;

@@ -1,4 +1,5 @@
 // The entries of a table, read by value. Each answer is a definition of specs/Reading on the bytes, whole or not.
+use crate::places;
 use model::events::Detail;
 use model::events::Directive;
 use model::events::KeptEvent;
@@ -14,7 +15,7 @@ pub fn directive(l: &[u8]) -> Directive
     requires { ⌜ 5904 ≤ length (now l) ⌝ }
     ensures { λ r. ⌜ r ≡ directiveIn (now (l .entry)) ⌝ }
 {
-    let w = words::word_at(l, 0);
+    let w = words::word_at(l, places::DIRECTIVE);
     if w == 1 {
         return Directive::Override;
     }
@@ -28,49 +29,49 @@ pub fn merged(l: &[u8]) -> bool
     requires { ⌜ 5904 ≤ length (now l) ⌝ }
     ensures { λ r. ⌜ r ≡ mergedIn (now (l .entry)) ⌝ }
 {
-    words::word_at(l, 1) == 1
+    words::word_at(l, places::MERGED) == 1
 }
 
 pub fn first_length(l: &[u8]) -> usize
     requires { ⌜ 5904 ≤ length (now l) ⌝ }
     ensures { λ r. ⌜ r ≡ firstLengthIn (now (l .entry)) ⌝ }
 {
-    words::word_at(l, 2) as usize
+    words::word_at(l, places::FIRST_LENGTH) as usize
 }
 
 pub fn second_length(l: &[u8]) -> usize
     requires { ⌜ 5904 ≤ length (now l) ⌝ }
     ensures { λ r. ⌜ r ≡ secondLengthIn (now (l .entry)) ⌝ }
 {
-    words::word_at(l, 3) as usize
+    words::word_at(l, places::SECOND_LENGTH) as usize
 }
 
 pub fn production_count(l: &[u8]) -> usize
     requires { ⌜ 5904 ≤ length (now l) ⌝ }
     ensures { λ r. ⌜ r ≡ productionCount (now (l .entry)) ⌝ }
 {
-    words::word_at(l, 4) as usize
+    words::word_at(l, places::PRODUCTIONS) as usize
 }
 
 pub fn event_count(l: &[u8]) -> usize
     requires { ⌜ 5904 ≤ length (now l) ⌝ }
     ensures { λ r. ⌜ r ≡ eventCount (now (l .entry)) ⌝ }
 {
-    words::word_at(l, 5) as usize
+    words::word_at(l, places::EVENTS) as usize
 }
 
 pub fn call_count(l: &[u8]) -> usize
     requires { ⌜ 5904 ≤ length (now l) ⌝ }
     ensures { λ r. ⌜ r ≡ callCount (now (l .entry)) ⌝ }
 {
-    words::word_at(l, 6) as usize
+    words::word_at(l, places::CALLS) as usize
 }
 
 pub fn parameter_count(l: &[u8]) -> usize
     requires { ⌜ 5904 ≤ length (now l) ⌝ }
     ensures { λ r. ⌜ r ≡ parameterCount (now (l .entry)) ⌝ }
 {
-    words::word_at(l, 7) as usize
+    words::word_at(l, places::PARAMETERS) as usize
 }
 
 // ---- Productions
@@ -79,14 +80,14 @@ pub fn production_events(l: &[u8], p: usize) -> usize
     requires { ⌜ (5904 ≤ length (now l)) × (p < 64) ⌝ }
     ensures { λ r. ⌜ r ≡ productionEvents (now (l .entry)) p ⌝ }
 {
-    words::word_at(l, 8 + p) as usize
+    words::word_at(l, places::PRODUCTION_EVENTS + p) as usize
 }
 
 pub fn production_calls(l: &[u8], p: usize) -> usize
     requires { ⌜ (5904 ≤ length (now l)) × (p < 64) ⌝ }
     ensures { λ r. ⌜ r ≡ productionCalls (now (l .entry)) p ⌝ }
 {
-    words::word_at(l, 72 + p) as usize
+    words::word_at(l, places::PRODUCTION_CALLS + p) as usize
 }
 
 // The place of a production's first event among all.
@@ -94,7 +95,7 @@ pub fn events_from(l: &[u8], p: usize) -> usize
     requires { ⌜ (5904 ≤ length (now l)) × (p ≤ 64) ⌝ }
     ensures { λ r. ⌜ r ≡ eventsFrom (now (l .entry)) p ⌝ }
 {
-    words::sum(l, 8, p) as usize
+    words::sum(l, places::PRODUCTION_EVENTS, p) as usize
 }
 
 // The place of a production's first call among all.
@@ -102,7 +103,7 @@ pub fn calls_from(l: &[u8], p: usize) -> usize
     requires { ⌜ (5904 ≤ length (now l)) × (p ≤ 64) ⌝ }
     ensures { λ r. ⌜ r ≡ callsFrom (now (l .entry)) p ⌝ }
 {
-    words::sum(l, 72, p) as usize
+    words::sum(l, places::PRODUCTION_CALLS, p) as usize
 }
 
 // ---- Calls and parameters
@@ -112,7 +113,7 @@ pub fn call_mark(l: &[u8], i: usize) -> bool
     requires { ⌜ (5904 ≤ length (now l)) × (i < 128) ⌝ }
     ensures { λ r. ⌜ r ≡ markAt (now (l .entry)) i ⌝ }
 {
-    words::word_at(l, 1928 + i) == 1
+    words::word_at(l, places::MARKS + i) == 1
 }
 
 pub fn call_name(l: &[u8], i: usize) -> Span
@@ -120,8 +121,8 @@ pub fn call_name(l: &[u8], i: usize) -> Span
     ensures { λ r. ⌜ r ≡ nameAt (now (l .entry)) i ⌝ }
 {
     Span {
-        start: words::word_at(l, 2056 + i) as usize,
-        len: words::word_at(l, 2184 + i) as usize,
+        start: words::word_at(l, places::NAME_STARTS + i) as usize,
+        len: words::word_at(l, places::NAME_LENGTHS + i) as usize,
     }
 }
 
@@ -129,7 +130,7 @@ pub fn call_parameters(l: &[u8], i: usize) -> usize
     requires { ⌜ (5904 ≤ length (now l)) × (i < 128) ⌝ }
     ensures { λ r. ⌜ r ≡ callParameters (now (l .entry)) i ⌝ }
 {
-    words::word_at(l, 2312 + i) as usize
+    words::word_at(l, places::CALL_PARAMETERS + i) as usize
 }
 
 // The place of a call's first parameter among all.
@@ -137,7 +138,7 @@ pub fn parameters_from(l: &[u8], i: usize) -> usize
     requires { ⌜ (5904 ≤ length (now l)) × (i ≤ 128) ⌝ }
     ensures { λ r. ⌜ r ≡ parametersFrom (now (l .entry)) i ⌝ }
 {
-    words::sum(l, 2312, i) as usize
+    words::sum(l, places::CALL_PARAMETERS, i) as usize
 }
 
 pub fn parameter_span(l: &[u8], i: usize) -> Span
@@ -145,8 +146,8 @@ pub fn parameter_span(l: &[u8], i: usize) -> Span
     ensures { λ r. ⌜ r ≡ parameterAt (now (l .entry)) i ⌝ }
 {
     Span {
-        start: words::word_at(l, 2440 + i) as usize,
-        len: words::word_at(l, 2696 + i) as usize,
+        start: words::word_at(l, places::PARAMETER_STARTS + i) as usize,
+        len: words::word_at(l, places::PARAMETER_LENGTHS + i) as usize,
     }
 }
 
@@ -189,12 +190,12 @@ pub fn event_at(l: &[u8], i: usize) -> KeptEvent
     ensures { λ r. ⌜ r ≡ eventAt (now (l .entry)) i ⌝ }
 {
     event_of(
-        words::word_at(l, 136 + i),
-        words::word_at(l, 392 + i),
-        words::word_at(l, 648 + i),
-        words::word_at(l, 904 + i),
-        words::word_at(l, 1160 + i),
-        words::word_at(l, 1416 + i),
-        words::word_at(l, 1672 + i),
+        words::word_at(l, places::CODES + i),
+        words::word_at(l, places::COUNTS + i),
+        words::word_at(l, places::SETS + i),
+        words::word_at(l, places::CLEARS + i),
+        words::word_at(l, places::FLAGS + i),
+        words::word_at(l, places::LOWS + i),
+        words::word_at(l, places::HIGHS + i),
     )
 }

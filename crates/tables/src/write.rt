@@ -1,4 +1,5 @@
 // Entries written into lent bytes, one a call. proofs/Written says what that does to the entries that the bytes hold.
+use crate::places;
 use model::events::Detail;
 use model::events::Directive;
 use model::events::KeptEvent;
@@ -48,19 +49,19 @@ fn put_test(out: &mut [u8], i: usize, code: u16, count: u16, set: u16, clear: u1
     requires { ⌜ (5904 ≤ length (now out)) × (i < 256) ⌝ }
     ensures { λ r. ⌜ now (out .exit) ≡ putTest (now (out .entry)) i code count set clear ⌝ }
 {
-    words::put_word(out, 136 + i, code);
-    words::put_word(out, 392 + i, count);
-    words::put_word(out, 648 + i, set);
-    words::put_word(out, 904 + i, clear);
+    words::put_word(out, places::CODES + i, code);
+    words::put_word(out, places::COUNTS + i, count);
+    words::put_word(out, places::SETS + i, set);
+    words::put_word(out, places::CLEARS + i, clear);
 }
 
 fn put_detail(out: &mut [u8], i: usize, flags: u16, low: u16, high: u16)
     requires { ⌜ (5904 ≤ length (now out)) × (i < 256) ⌝ }
     ensures { λ r. ⌜ now (out .exit) ≡ putDetail (now (out .entry)) i flags low high ⌝ }
 {
-    words::put_word(out, 1160 + i, flags);
-    words::put_word(out, 1416 + i, low);
-    words::put_word(out, 1672 + i, high);
+    words::put_word(out, places::FLAGS + i, flags);
+    words::put_word(out, places::LOWS + i, low);
+    words::put_word(out, places::HIGHS + i, high);
 }
 
 fn flags_of(colon: bool, clause: bool, given: bool) -> u16
@@ -96,10 +97,10 @@ pub fn put_call(out: &mut [u8], i: usize, second: bool, name: Span, parameters: 
 {
     let start = name.start;
     let len = name.len;
-    words::put_word(out, 1928 + i, flag_word(1, second));
-    words::put_word(out, 2056 + i, start as u16);
-    words::put_word(out, 2184 + i, len as u16);
-    words::put_word(out, 2312 + i, parameters as u16);
+    words::put_word(out, places::MARKS + i, flag_word(1, second));
+    words::put_word(out, places::NAME_STARTS + i, start as u16);
+    words::put_word(out, places::NAME_LENGTHS + i, len as u16);
+    words::put_word(out, places::CALL_PARAMETERS + i, parameters as u16);
 }
 
 pub fn put_parameter(out: &mut [u8], i: usize, s: Span)
@@ -108,8 +109,8 @@ pub fn put_parameter(out: &mut [u8], i: usize, s: Span)
 {
     let start = s.start;
     let len = s.len;
-    words::put_word(out, 2440 + i, start as u16);
-    words::put_word(out, 2696 + i, len as u16);
+    words::put_word(out, places::PARAMETER_STARTS + i, start as u16);
+    words::put_word(out, places::PARAMETER_LENGTHS + i, len as u16);
 }
 
 // ---- Productions
@@ -119,8 +120,8 @@ pub fn put_production(out: &mut [u8], p: usize, events: usize, calls: usize)
     requires { ⌜ ((5904 ≤ length (now out)) × (p < 64)) × ((events < 65536) × (calls < 65536)) ⌝ }
     ensures { λ r. ⌜ now (out .exit) ≡ putProduction (now (out .entry)) p events calls ⌝ }
 {
-    words::put_word(out, 8 + p, events as u16);
-    words::put_word(out, 72 + p, calls as u16);
+    words::put_word(out, places::PRODUCTION_EVENTS + p, events as u16);
+    words::put_word(out, places::PRODUCTION_CALLS + p, calls as u16);
 }
 
 // ---- The header
@@ -139,10 +140,10 @@ pub fn put_texts(out: &mut [u8], directive: Directive, merged: bool, first: usiz
     requires { ⌜ (5904 ≤ length (now out)) × ((first < 65536) × (second < 65536)) ⌝ }
     ensures { λ r. ⌜ now (out .exit) ≡ putTexts (now (out .entry)) directive merged first second ⌝ }
 {
-    words::put_word(out, 0, directive_word(directive));
-    words::put_word(out, 1, flag_word(1, merged));
-    words::put_word(out, 2, first as u16);
-    words::put_word(out, 3, second as u16);
+    words::put_word(out, places::DIRECTIVE, directive_word(directive));
+    words::put_word(out, places::MERGED, flag_word(1, merged));
+    words::put_word(out, places::FIRST_LENGTH, first as u16);
+    words::put_word(out, places::SECOND_LENGTH, second as u16);
 }
 
 pub fn put_counts(
@@ -155,8 +156,8 @@ pub fn put_counts(
     requires { ⌜ (5904 ≤ length (now out)) × ((productions < 65536) × (events < 65536) × (calls < 65536) × (parameters < 65536)) ⌝ }
     ensures { λ r. ⌜ now (out .exit) ≡ putCounts (now (out .entry)) productions events calls parameters ⌝ }
 {
-    words::put_word(out, 4, productions as u16);
-    words::put_word(out, 5, events as u16);
-    words::put_word(out, 6, calls as u16);
-    words::put_word(out, 7, parameters as u16);
+    words::put_word(out, places::PRODUCTIONS, productions as u16);
+    words::put_word(out, places::EVENTS, events as u16);
+    words::put_word(out, places::CALLS, calls as u16);
+    words::put_word(out, places::PARAMETERS, parameters as u16);
 }
