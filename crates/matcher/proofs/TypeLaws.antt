@@ -20,7 +20,7 @@ use Rattle.model.specs.declared.events.KeptEvent.{KeptEvent}
 use Rattle.tables.specs.Layout.{productionEventsAt, flat, eventsOf}
 use Rattle.tables.specs.Reading.{productionCount, eventCount, productionEvents, eventsFrom, eventAt, productionAt, decode}
 use Rattle.tables.proofs.Lists.{flat-runs}
-use Rattle.matcher.specs.Walk.{anyBelow, otherCode, eventHas, hasCode, hasEither}
+use Rattle.matcher.specs.Types.{anyBelow, otherCode, eventHas, hasCode, hasEither}
 use Rattle.matcher.proofs.TableFacts.{EntryFacts, TableFacts}
 
 or-again : (a b : Bool) → a || (b || (a || b)) ≡ a || b

@@ -1,4 +1,5 @@
 pub mod State
+pub mod Types
 pub mod Walk
 pub mod Filter
 pub mod Moves

@@ -1,11 +1,11 @@
 -- How a stretch of events is walked along the elements of a production, and what one pass over the productions finds.
 -- proofs/PassLaws shows that this comes to model's `readsAsPrefix` and `isWholeSequence`.
-use Prim.Native.Nat.{ℕ, zero, suc, _+_, _-_, _*_, _%_, _≤_, _<_}
+use Prim.Native.Nat.{ℕ, suc, _+_, _-_, _*_, _≤_, _<_}
 use mathlib.Core.Path.{_≡_}
 use mathlib.Core.Bool.{Bool, true, false, cond, not, _&&_, _||_}
 use mathlib.Core.List.{List, [], _∷_}
 use mathlib.Core.Option.{Option, none, some}
-use lib.Dec.{eqb, leb, ltb}
+use lib.Dec.{eqb, leb}
 use lib.ListN.{length, getD}
 use Rattle.words.specs.Words.{wordAt}
 use Rattle.model.specs.Keyboard.{firstKeysym, secondKeysym}
@@ -17,7 +17,7 @@ use Rattle.model.specs.declared.events.Event.{Event}
 use Rattle.model.specs.declared.events.KeptEvent.{KeptEvent}
 use Rattle.counts.specs.Elements.{elementCount, elementCode, isTimed}
 use Rattle.keyboard.specs.Pairs.{pairAsked}
-use Rattle.tables.specs.Layout.{codesAt, countsAt, flagsAt, lowsAt, highsAt}
+use Rattle.tables.specs.Layout.{flagsAt, lowsAt, highsAt}
 use Rattle.words.specs.Runs.{run}
 use Rattle.tables.specs.Reading.{productionCount, eventCount, eventsFrom, eventAt}
 use Rattle.tables.specs.Whole.{whole}
@@ -114,26 +114,3 @@ pub record Skipped (l : List ℕ) (low at p : ℕ) : Type 0 where
   pub most : p ≤ productionCount l
   pub place : at ≡ eventsFrom l p
   pub over : (q : ℕ) → q < p → eventsFrom l q < low
-
--- ---- The types of events that a table has
-
--- a test passes at a number below n
-unfoldable pub anyBelow : (ℕ → Bool) → ℕ → Bool
-anyBelow test zero = false
-anyBelow test (suc n) = anyBelow test n || test n
-
--- a press and its release stand for each other where either is counted
-abbrev pub otherCode : ℕ → ℕ
-otherCode own = own + 1 - 2 * (own % 2)
-
-unfoldable pub eventHas : (own count code : ℕ) → Bool
-eventHas own count code = eqb own code || (ltb 1 count && eqb (otherCode own) code)
-
--- event i of a table has this code
-unfoldable pub hasCode : List ℕ → (code : ℕ) → ℕ → Bool
-hasCode l code i = eqb (wordAt l (codesAt + i)) code
-
--- or it has the other code, and is counted
-unfoldable pub hasEither : List ℕ → (code other : ℕ) → ℕ → Bool
-hasEither l code other i =
-    eqb (wordAt l (codesAt + i)) code || (eqb (wordAt l (codesAt + i)) other && not (eqb (wordAt l (countsAt + i)) 1))

@@ -12,6 +12,7 @@ mod moves;
 mod reader;
 mod slots;
 pub mod state;
+mod types;
 mod walk;
 
 use crate::state::State;
@@ -92,7 +93,7 @@ pub fn match_event(
     let RecordRead::Event(x) = read else {
         return refused(number_of(read), state);
     };
-    if !walk::has_type(table, x.code) {
+    if !types::has_type(table, x.code) {
         return Answer {
             matched: Matched::Dropped,
             state,

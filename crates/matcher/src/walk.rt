@@ -9,13 +9,12 @@ ghost use Rattle.tables.specs.Reading.{productionCount, productionEvents, event
 ghost use Rattle.tables.specs.Whole.{whole};
 ghost use Rattle.words.specs.Runs.{run, total};
 ghost use Rattle.model.specs.Counts.{expanded};
-ghost use Rattle.model.specs.Lists.{any};
-ghost use Rattle.model.specs.Matching.{hasType, readingOf};
+ghost use Rattle.model.specs.Matching.{readingOf};
 ghost use Rattle.machine.specs.Kept.{longestEnd};
 ghost use Rattle.keyboard.specs.Maps.{mapNumbers};
 ghost use Rattle.matcher.specs.State.{zeroEvent, slotsOf};
 ghost use Rattle.matcher.specs.Filter.{soughtOf};
-ghost use Rattle.matcher.specs.Walk.{eventMeets, detailAsked, elementOf, fitsAfter, walked, sizeIn, Ready, Outside, Skipped, passed, passedIn, anyBelow, otherCode, hasCode, hasEither};
+ghost use Rattle.matcher.specs.Walk.{eventMeets, detailAsked, elementOf, fitsAfter, walked, sizeIn, Ready, Outside, Skipped, passed, passedIn};
 use crate::filter;
 use crate::filter::Reach;
 use crate::filter::Sought;
@@ -352,56 +351,4 @@ pub fn first_start(
         at,
         found: Passed::No,
     }
-}
-
-// The press of a release, and the release of a press.
-fn other_code(code: u8) -> u8
-    requires { ⌜ code ≤ 5 ⌝ }
-    ensures { λ r. ⌜ r ≡ otherCode code ⌝ }
-{
-    code + 1 - 2 * (code % 2)
-}
-
-// Whether one of the first n events has this code. No early exit, and whole words, so that the loop is compiled to vector
-// instructions.
-fn has_code(table: &[u8], n: usize, code: u16) -> bool
-    requires { ⌜ (5904 ≤ length (now table)) × (n ≤ 256) ⌝ }
-    ensures { λ r. ⌜ r ≡ anyBelow (hasCode (now (table .entry)) code) n ⌝ }
-{
-    let mut hit = false;
-    let mut i: usize = 0;
-    while i < n {
-        hit = hit | (words::word_at(table, places::CODES + i) == code);
-        i += 1;
-    }
-    hit
-}
-
-// Whether one of them has this code, or has the other one and is counted: such an event stands for presses and releases. In
-// a whole table every count is at least 1.
-fn has_either(table: &[u8], n: usize, code: u16, other: u16) -> bool
-    requires { ⌜ (5904 ≤ length (now table)) × (n ≤ 256) ⌝ }
-    ensures { λ r. ⌜ r ≡ anyBelow (hasEither (now (table .entry)) code other) n ⌝ }
-{
-    let mut hit = false;
-    let mut i: usize = 0;
-    while i < n {
-        let own = words::word_at(table, places::CODES + i);
-        let counted = words::word_at(table, places::COUNTS + i) != 1;
-        hit = hit | (own == code) | ((own == other) & counted);
-        i += 1;
-    }
-    hit
-}
-
-// Whether some production has an event of this type. Only keys and buttons are counted, whose codes are 2 to 5.
-pub fn has_type(table: &[u8], code: u8) -> bool
-    requires { ⌜ whole (now table) ≡ true ⌝ }
-    ensures { λ r. ⌜ r ≡ any (hasType code) (decode (now (table .entry)) .productions) ⌝ }
-{
-    let n = tables::read::event_count(table);
-    if 5 < code {
-        return has_code(table, n, code as u16);
-    }
-    has_either(table, n, code as u16, other_code(code) as u16)
 }

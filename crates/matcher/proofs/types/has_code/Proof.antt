@@ -1,14 +1,14 @@
--- `matcher::walk::has_code` meets its contract.
+-- `matcher::types::has_code` meets its contract.
 use Prim.Native.Nat.{ℕ, _-_, _≤_}
 use native.Mathlib.Omega.{arith}
 use mathlib.Core.Path.{_≡_, sym, ap, ap₂, _∙_}
 use mathlib.Core.Bool.{_||_}
 use denote.Ref.{now}
 use lib.Dec.{eqb}
-use Rattle.matcher.specs.Walk.{anyBelow, hasCode}
+use Rattle.matcher.specs.Types.{anyBelow, hasCode}
 use Rattle.matcher.proofs.TypeLaws.{below-none, below-more}
-use Rattle.matcher.proofs.walk.has_code.Statement.{statement}
-use Rattle.matcher.proofs.walk.has_code.Tie as tie
+use Rattle.matcher.proofs.types.has_code.Statement.{statement}
+use Rattle.matcher.proofs.types.has_code.Tie as tie
 
 abbrev Inv-loop : tie.InvT-loop
 Inv-loop table n code hit₀ i₀ hit i = (i ≤ n) × (hit ≡ anyBelow (hasCode table code) i)

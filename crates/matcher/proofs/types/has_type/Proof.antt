@@ -1,14 +1,14 @@
--- `matcher::walk::has_type` meets its contract.
+-- `matcher::types::has_type` meets its contract.
 use Prim.Native.Nat.{ℕ}
 use native.Mathlib.Omega.{arith}
 use mathlib.Core.Path.{ap, ap₂, _∙_}
 use denote.Ref.{now}
-use Rattle.matcher.specs.Walk.{anyBelow, hasCode, hasEither}
+use Rattle.matcher.specs.Types.{anyBelow, hasCode, hasEither}
 use Rattle.matcher.proofs.TableFacts.{table-facts}
 use Rattle.matcher.proofs.TypeLaws.{code-type, either-type}
 use borrow.Author.Needs.{needs}
-use Rattle.matcher.proofs.walk.has_type.Statement.{statement}
-use Rattle.matcher.proofs.walk.has_type.Tie as tie
+use Rattle.matcher.proofs.types.has_type.Statement.{statement}
+use Rattle.matcher.proofs.types.has_type.Tie as tie
 
 event-count-requires : tie.Need-event-count-requires
 event-count-requires c κs = table-facts _ (c .before .pre) .long

@@ -1,14 +1,14 @@
--- `matcher::walk::has_either` meets its contract.
+-- `matcher::types::has_either` meets its contract.
 use Prim.Native.Nat.{ℕ, _-_, _≤_}
 use native.Mathlib.Omega.{arith}
 use mathlib.Core.Path.{_≡_, sym, ap, ap₂, _∙_}
 use mathlib.Core.Bool.{not, _&&_, _||_, or-assoc}
 use denote.Ref.{now}
 use lib.Dec.{eqb}
-use Rattle.matcher.specs.Walk.{anyBelow, hasEither}
+use Rattle.matcher.specs.Types.{anyBelow, hasEither}
 use Rattle.matcher.proofs.TypeLaws.{below-none, below-more}
-use Rattle.matcher.proofs.walk.has_either.Statement.{statement}
-use Rattle.matcher.proofs.walk.has_either.Tie as tie
+use Rattle.matcher.proofs.types.has_either.Statement.{statement}
+use Rattle.matcher.proofs.types.has_either.Tie as tie
 
 abbrev Inv-loop : tie.InvT-loop
 Inv-loop table n code other hit₀ i₀ hit i = (i ≤ n) × (hit ≡ anyBelow (hasEither table code other) i)
