@@ -28,7 +28,8 @@ soughtOf map x =
       second = folded (cond (leb (x .code) 3) (other (firstKeysym map (x .detail)) (secondKeysym map (x .detail))) (x .detail));
     }
 
--- the codes are the same, or those of a press and its release, 2 and 3 or 4 and 5: a counted release begins with a press
+-- the codes are the same but for the last bit, as those of a press and its release are, 2 and 3 or 4 and 5: a counted release
+-- begins with a press
 unfoldable pub codeSeems : ℕ → Sought → Bool
 codeSeems own s = eqb (own / 2) (s .code / 2)
 

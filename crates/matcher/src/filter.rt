@@ -51,8 +51,8 @@ pub fn sought_of(map: &[u8], x: Event) -> Sought
     }
 }
 
-// Whether the codes are a press and its release, or the same: 2 and 3 are those of keys, 4 and 5 those of buttons, and a
-// counted release begins with a press.
+// Whether the codes are the same but for the last bit, as those of a press and its release are: 2 and 3 of keys, 4 and 5 of
+// buttons. A counted release begins with a press. Other codes that pass are told apart by the walk.
 fn code_seems(own: u16, s: Sought) -> bool
     ensures { λ r. ⌜ r ≡ codeSeems own s ⌝ }
 {
