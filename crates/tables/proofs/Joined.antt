@@ -76,9 +76,10 @@ joined-event c n s k f lo hi =
     p : Bool
     p = leb 2 c && leb c 34 && leb 1 n && leb n 9 && (leb n 1 || leb c 5)
 
--- ---- Bounds: what is above one is joined
+-- ---- Bounds
 
-pub within-bound : (x most : ℕ) → eqb (x - most) 0 ≡ leb x most
+-- a number is within its bound where it is above it by 0
+within-bound : (x most : ℕ) → eqb (x - most) 0 ≡ leb x most
 within-bound x most =
     same-test (eqb (x - most) 0) (leb x most)
     (λ e. let z = eqb-true (x - most) 0 e in le-leb x most (omega arith))
@@ -86,7 +87,7 @@ within-bound x most =
 
 -- ---- Spans
 
-pub span-within : (s n t : ℕ) → (eqb (s - t) 0 && eqb (n - (t - s)) 0) ≡ leb (s + n) t
+span-within : (s n t : ℕ) → (eqb (s - t) 0 && eqb (n - (t - s)) 0) ≡ leb (s + n) t
 span-within s n t = same-test (eqb (s - t) 0 && eqb (n - (t - s)) 0) (leb (s + n) t) there back
   where
     there : (eqb (s - t) 0 && eqb (n - (t - s)) 0) ≡ true → leb (s + n) t ≡ true

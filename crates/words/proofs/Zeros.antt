@@ -31,7 +31,23 @@ or-zero x y = same-test (eqb (bitOr x y) 0) (eqb x 0 && eqb y 0) there back
         let s = or-add-and x y in
         eq-eqb (bitOr x y) 0 (omega (arith, a, b, s))
 
--- and below a power of two where both are
+-- and where all three are
+pub or-zero-three : (x y z : ℕ) → eqb (bitOr (bitOr x y) z) 0 ≡ (eqb x 0 && eqb y 0 && eqb z 0)
+or-zero-three x y z = or-zero (bitOr x y) z ∙ ap (λ (t : Bool). t && eqb z 0) (or-zero x y)
+
+-- and where all four are
+pub or-zero-four : (w x y z : ℕ) → eqb (bitOr (bitOr (bitOr w x) y) z) 0 ≡ (eqb w 0 && eqb x 0 && eqb y 0 && eqb z 0)
+or-zero-four w x y z = or-zero (bitOr (bitOr w x) y) z ∙ ap (λ (t : Bool). t && eqb z 0) (or-zero-three w x y)
+
+-- three or four more numbers, joined to what was joined before
+pub three-joined : (j x y z : ℕ) → eqb (bitOr j (bitOr (bitOr x y) z)) 0 ≡ (eqb j 0 && (eqb x 0 && eqb y 0 && eqb z 0))
+three-joined j x y z = or-zero j (bitOr (bitOr x y) z) ∙ ap (λ (t : Bool). eqb j 0 && t) (or-zero-three x y z)
+
+pub four-joined : (j w x y z : ℕ)
+    → eqb (bitOr j (bitOr (bitOr (bitOr w x) y) z)) 0 ≡ (eqb j 0 && (eqb w 0 && eqb x 0 && eqb y 0 && eqb z 0))
+four-joined j w x y z = or-zero j (bitOr (bitOr (bitOr w x) y) z) ∙ ap (λ (t : Bool). eqb j 0 && t) (or-zero-four w x y z)
+
+-- numbers joined are below a power of two where both are
 pub or-below : (k x y : ℕ) → ltb (bitOr x y) (2 ^ k) ≡ (ltb x (2 ^ k) && ltb y (2 ^ k))
 or-below k x y = same-test (ltb (bitOr x y) (2 ^ k)) (ltb x (2 ^ k) && ltb y (2 ^ k)) there back
   where
@@ -47,22 +63,6 @@ or-below k x y = same-test (ltb (bitOr x y) (2 ^ k)) (ltb x (2 ^ k) && ltb y (2 
     back e =
         lt-ltb (bitOr x y) (2 ^ k)
         (or-lt k x y (ltb-true x (2 ^ k) (and-left (ltb x (2 ^ k)) (ltb y (2 ^ k)) e)) (ltb-true y (2 ^ k) (and-right (ltb x (2 ^ k)) (ltb y (2 ^ k)) e)))
-
--- so for three
-pub or-zero-three : (x y z : ℕ) → eqb (bitOr (bitOr x y) z) 0 ≡ (eqb x 0 && eqb y 0 && eqb z 0)
-or-zero-three x y z = or-zero (bitOr x y) z ∙ ap (λ (t : Bool). t && eqb z 0) (or-zero x y)
-
--- and for four
-pub or-zero-four : (w x y z : ℕ) → eqb (bitOr (bitOr (bitOr w x) y) z) 0 ≡ (eqb w 0 && eqb x 0 && eqb y 0 && eqb z 0)
-or-zero-four w x y z = or-zero (bitOr (bitOr w x) y) z ∙ ap (λ (t : Bool). t && eqb z 0) (or-zero-three w x y)
-
--- what is joined to the numbers joined before
-pub three-joined : (j x y z : ℕ) → eqb (bitOr j (bitOr (bitOr x y) z)) 0 ≡ (eqb j 0 && (eqb x 0 && eqb y 0 && eqb z 0))
-three-joined j x y z = or-zero j (bitOr (bitOr x y) z) ∙ ap (λ (t : Bool). eqb j 0 && t) (or-zero-three x y z)
-
-pub four-joined : (j w x y z : ℕ)
-    → eqb (bitOr j (bitOr (bitOr (bitOr w x) y) z)) 0 ≡ (eqb j 0 && (eqb w 0 && eqb x 0 && eqb y 0 && eqb z 0))
-four-joined j w x y z = or-zero j (bitOr (bitOr (bitOr w x) y) z) ∙ ap (λ (t : Bool). eqb j 0 && t) (or-zero-four w x y z)
 
 -- a test over a run, made over two runs of one length that cover it
 module _ (test : ℕ → Bool) (s n h : ℕ) (short : h ≤ n) (long : n ≤ h + h) where
