@@ -10,7 +10,7 @@ use Rattle.model.specs.Asking as asking
 use Rattle.model.specs.declared.answers.Counted.{Counted}
 use Rattle.model.specs.declared.answers.Located.{Located}
 use Rattle.tables.specs.Layout.{tableLength}
-use Rattle.tables.specs.Reading.{firstLengthIn, secondLengthIn, productionCount, productionCalls, markAt, nameAt, callParameters, parametersFrom, parameterAt, decode}
+use Rattle.tables.specs.Reading.{firstLengthIn, secondLengthIn, productionTotal, productionCalls, markEntry, nameEntry, callParameters, firstParameter, parameterEntry, decode}
 use Rattle.tables.specs.Whole.{whole}
 use Rattle.calls.specs.declared.Place.{Place}
 use Rattle.calls.specs.Refusals.{textsShort, tableRefusal, lentRefusal}
@@ -66,14 +66,14 @@ module _ (table first second : List ℕ) where
 -- ---- How many
 
 module _ (table : List ℕ) (passed : tableRefusal table ≡ 0) where
-  pub productions-answer : Counted.Accepted (productionCount table) ≡ productionsAnswer table
+  pub productions-answer : Counted.Accepted (productionTotal table) ≡ productionsAnswer table
   productions-answer =
       sym (count-passed table (asking.productionCount (decode table)) passed ∙ ap settledCount (productions-here table))
 
-  pub calls-answer : (p : ℕ) → p < productionCount table → Counted.Accepted (productionCalls table p) ≡ callsAnswer table p
+  pub calls-answer : (p : ℕ) → p < productionTotal table → Counted.Accepted (productionCalls table p) ≡ callsAnswer table p
   calls-answer p h = sym (count-passed table (asking.callCount (decode table) p) passed ∙ ap settledCount (calls-here table p h))
 
-  pub calls-absent : (p : ℕ) → productionCount table ≤ p → Counted.Refused 16 ≡ callsAnswer table p
+  pub calls-absent : (p : ℕ) → productionTotal table ≤ p → Counted.Refused 16 ≡ callsAnswer table p
   calls-absent p h = sym (count-passed table (asking.callCount (decode table) p) passed ∙ ap settledCount (calls-past table p h))
 
   pub parameters-answer : (p c i : ℕ) → placeOf table p c ≡ Place.At i → Counted.Accepted (callParameters table i) ≡ parametersAnswer table p c
@@ -87,22 +87,22 @@ module _ (table : List ℕ) (passed : tableRefusal table ≡ 0) where
 -- ---- Where
 
 module _ (table first second : List ℕ) (passed : lentRefusal table first second ≡ 0) where
-  pub name-answer : (p c i : ℕ) → placeOf table p c ≡ Place.At i → located (markAt table i) (nameAt table i) ≡ nameAnswer table first second p c
+  pub name-answer : (p c i : ℕ) → placeOf table p c ≡ Place.At i → located (markEntry table i) (nameEntry table i) ≡ nameAnswer table first second p c
   name-answer p c i e =
       sym (place-passed table first second (locatedName (decode table) p c) passed
       ∙ ap settledPlace (name-here table p c i e)
-      ∙ settled-located (markAt table i) (nameAt table i))
+      ∙ settled-located (markEntry table i) (nameEntry table i))
 
   pub name-absent : (p c : ℕ) → placeOf table p c ≡ Place.Nothing → Located.Refused 16 ≡ nameAnswer table first second p c
   name-absent p c e =
       sym (place-passed table first second (locatedName (decode table) p c) passed ∙ ap settledPlace (name-past table p c e))
 
   pub parameter-answer : (p c i k : ℕ) → placeOf table p c ≡ Place.At i → k < callParameters table i
-      → located (markAt table i) (parameterAt table (parametersFrom table i + k)) ≡ parameterAnswer table first second p c k
+      → located (markEntry table i) (parameterEntry table (firstParameter table i + k)) ≡ parameterAnswer table first second p c k
   parameter-answer p c i k e h =
       sym (place-passed table first second (locatedParameter (decode table) p c k) passed
       ∙ ap settledPlace (parameter-here table p c i k e h)
-      ∙ settled-located (markAt table i) (parameterAt table (parametersFrom table i + k)))
+      ∙ settled-located (markEntry table i) (parameterEntry table (firstParameter table i + k)))
 
   pub parameter-absent : (p c i k : ℕ) → placeOf table p c ≡ Place.At i → callParameters table i ≤ k
       → Located.Refused 16 ≡ parameterAnswer table first second p c k

@@ -11,11 +11,11 @@ use borrow.Author.Tests.{leb-true, leb-false, le-leb, lt-leb}
 use Rattle.words.specs.Runs.{run}
 use Rattle.words.proofs.RunLaws.{length-run}
 use Rattle.model.specs.Tables.{Call, Production}
-use Rattle.model.specs.Asking.{at, askedProduction, callIn, askedCall, callsOf, parametersOf, spanOf, nameOf, parameterOf, located, locatedName, locatedParameter}
+use Rattle.model.specs.Asking.{at, askedProduction, callIn, askedCall, callsAsked, parametersAsked, spanOf, nameAsked, parameterOf, located, locatedName, locatedParameter}
 use Rattle.model.specs.Asking as asking
 use Rattle.model.specs.declared.answers.Counted.{Counted}
 use Rattle.model.specs.declared.answers.Located.{Located}
-use Rattle.tables.specs.Reading.{productionCount, productionCalls, callsFrom, productionAt, callCount, markAt, nameAt, callParameters, parametersFrom, parameterAt, callAt, decode}
+use Rattle.tables.specs.Reading.{productionTotal, productionCalls, firstCall, productionEntry, callTotal, markEntry, nameEntry, callParameters, firstParameter, parameterEntry, callEntry, decode}
 use Rattle.tables.specs.Whole.{whole}
 use Rattle.tables.proofs.Exact.{whole-facts}
 use Rattle.tables.proofs.CheckFacts.{CheckFacts, calls-within, parameters-within}
@@ -40,142 +40,142 @@ module _ {A : Type 0} where
 module _ (l : List ℕ) where
   -- ---- How many
 
-  pub productions-here : asking.productionCount (decode l) ≡ Counted.Accepted (productionCount l)
+  pub productions-here : asking.productionCount (decode l) ≡ Counted.Accepted (productionTotal l)
   unfolding asking.productionCount decode
-  productions-here = ap Counted.Accepted (length-run (productionAt l) 0 (productionCount l))
+  productions-here = ap Counted.Accepted (length-run (productionEntry l) 0 (productionTotal l))
 
-  production-here : (p : ℕ) → p < productionCount l → askedProduction (decode l) p ≡ some (productionAt l p)
+  production-here : (p : ℕ) → p < productionTotal l → askedProduction (decode l) p ≡ some (productionEntry l p)
   unfolding askedProduction decode
-  production-here p h = at-run (productionAt l) 0 (productionCount l) p h ∙ ap (λ (k : ℕ). some (productionAt l k)) (zero-add p)
+  production-here p h = at-run (productionEntry l) 0 (productionTotal l) p h ∙ ap (λ (k : ℕ). some (productionEntry l k)) (zero-add p)
 
-  production-past : (p : ℕ) → productionCount l ≤ p → askedProduction (decode l) p ≡ none
+  production-past : (p : ℕ) → productionTotal l ≤ p → askedProduction (decode l) p ≡ none
   unfolding askedProduction decode
-  production-past p h = at-past (productionAt l) 0 (productionCount l) p h
+  production-past p h = at-past (productionEntry l) 0 (productionTotal l) p h
 
-  pub calls-here : (p : ℕ) → p < productionCount l → asking.callCount (decode l) p ≡ Counted.Accepted (productionCalls l p)
-  unfolding asking.callCount productionAt
-  calls-here p h = ap callsOf (production-here p h) ∙ ap Counted.Accepted (length-run (callAt l) (callsFrom l p) (productionCalls l p))
+  pub calls-here : (p : ℕ) → p < productionTotal l → asking.callCount (decode l) p ≡ Counted.Accepted (productionCalls l p)
+  unfolding asking.callCount productionEntry
+  calls-here p h = ap callsAsked (production-here p h) ∙ ap Counted.Accepted (length-run (callEntry l) (firstCall l p) (productionCalls l p))
 
-  pub calls-past : (p : ℕ) → productionCount l ≤ p → asking.callCount (decode l) p ≡ Counted.Refused 16
+  pub calls-past : (p : ℕ) → productionTotal l ≤ p → asking.callCount (decode l) p ≡ Counted.Refused 16
   unfolding asking.callCount
-  calls-past p h = ap callsOf (production-past p h)
+  calls-past p h = ap callsAsked (production-past p h)
 
   -- ---- The place of a call
 
-  call-here : (p c : ℕ) → p < productionCount l → c < productionCalls l p → askedCall (decode l) p c ≡ some (callAt l (callsFrom l p + c))
-  unfolding askedCall productionAt
-  call-here p c h q = ap (λ (o : Option Production). callIn o c) (production-here p h) ∙ at-run (callAt l) (callsFrom l p) (productionCalls l p) c q
+  call-here : (p c : ℕ) → p < productionTotal l → c < productionCalls l p → askedCall (decode l) p c ≡ some (callEntry l (firstCall l p + c))
+  unfolding askedCall productionEntry
+  call-here p c h q = ap (λ (o : Option Production). callIn o c) (production-here p h) ∙ at-run (callEntry l) (firstCall l p) (productionCalls l p) c q
 
-  call-past : (p c : ℕ) → p < productionCount l → productionCalls l p ≤ c → askedCall (decode l) p c ≡ none
-  unfolding askedCall productionAt
-  call-past p c h q = ap (λ (o : Option Production). callIn o c) (production-here p h) ∙ at-past (callAt l) (callsFrom l p) (productionCalls l p) c q
+  call-past : (p c : ℕ) → p < productionTotal l → productionCalls l p ≤ c → askedCall (decode l) p c ≡ none
+  unfolding askedCall productionEntry
+  call-past p c h q = ap (λ (o : Option Production). callIn o c) (production-here p h) ∙ at-past (callEntry l) (firstCall l p) (productionCalls l p) c q
 
-  no-production : (p c : ℕ) → productionCount l ≤ p → askedCall (decode l) p c ≡ none
+  no-production : (p c : ℕ) → productionTotal l ≤ p → askedCall (decode l) p c ≡ none
   unfolding askedCall
   no-production p c h = ap (λ (o : Option Production). callIn o c) (production-past p h)
 
   -- the call at a place
   abbrev pub callThere : Place → Option Call
-  callThere (Place.At i) = some (callAt l i)
+  callThere (Place.At i) = some (callEntry l i)
   callThere Place.Nothing = none
 
   -- `placeOf` is the place of the call that is asked for
   pub call-there : (p c : ℕ) → askedCall (decode l) p c ≡ callThere (placeOf l p c)
   unfolding placeOf
-  call-there p c = go (leb (productionCount l) p) (leb (productionCalls l p) c) refl refl
+  call-there p c = go (leb (productionTotal l) p) (leb (productionCalls l p) c) refl refl
     where
-      go : (a b : Bool) → leb (productionCount l) p ≡ a → leb (productionCalls l p) c ≡ b
-          → askedCall (decode l) p c ≡ callThere (cond a Place.Nothing (cond b Place.Nothing (Place.At (callsFrom l p + c))))
-      go true b e f = no-production p c (leb-true (productionCount l) p e)
-      go false true e f = call-past p c (leb-false (productionCount l) p e) (leb-true (productionCalls l p) c f)
-      go false false e f = call-here p c (leb-false (productionCount l) p e) (leb-false (productionCalls l p) c f)
+      go : (a b : Bool) → leb (productionTotal l) p ≡ a → leb (productionCalls l p) c ≡ b
+          → askedCall (decode l) p c ≡ callThere (cond a Place.Nothing (cond b Place.Nothing (Place.At (firstCall l p + c))))
+      go true b e f = no-production p c (leb-true (productionTotal l) p e)
+      go false true e f = call-past p c (leb-false (productionTotal l) p e) (leb-true (productionCalls l p) c f)
+      go false false e f = call-here p c (leb-false (productionTotal l) p e) (leb-false (productionCalls l p) c f)
 
-  pub no-place-production : (p c : ℕ) → productionCount l ≤ p → Place.Nothing ≡ placeOf l p c
+  pub no-place-production : (p c : ℕ) → productionTotal l ≤ p → Place.Nothing ≡ placeOf l p c
   unfolding placeOf
-  no-place-production p c h = rw (le-leb (productionCount l) p h)
+  no-place-production p c h = rw (le-leb (productionTotal l) p h)
 
-  pub no-place-call : (p c : ℕ) → p < productionCount l → productionCalls l p ≤ c → Place.Nothing ≡ placeOf l p c
+  pub no-place-call : (p c : ℕ) → p < productionTotal l → productionCalls l p ≤ c → Place.Nothing ≡ placeOf l p c
   unfolding placeOf
-  no-place-call p c h q = rw (lt-leb (productionCount l) p h, le-leb (productionCalls l p) c q)
+  no-place-call p c h q = rw (lt-leb (productionTotal l) p h, le-leb (productionCalls l p) c q)
 
-  pub place-found : (p c : ℕ) → p < productionCount l → c < productionCalls l p → Place.At (callsFrom l p + c) ≡ placeOf l p c
+  pub place-found : (p c : ℕ) → p < productionTotal l → c < productionCalls l p → Place.At (firstCall l p + c) ≡ placeOf l p c
   unfolding placeOf
-  place-found p c h q = rw (lt-leb (productionCount l) p h, lt-leb (productionCalls l p) c q)
+  place-found p c h q = rw (lt-leb (productionTotal l) p h, lt-leb (productionCalls l p) c q)
 
   -- it is one of the calls of the table
   abbrev Among : Place → Type 0
-  Among (Place.At i) = i < callCount l
+  Among (Place.At i) = i < callTotal l
   Among Place.Nothing = Unit
 
   place-among : (p c : ℕ) → whole l ≡ true → Among (placeOf l p c)
-  unfolding placeOf productionCount productionCalls callsFrom callCount
-  place-among p c w = go (leb (productionCount l) p) (leb (productionCalls l p) c) refl refl
+  unfolding placeOf productionTotal productionCalls firstCall callTotal
+  place-among p c w = go (leb (productionTotal l) p) (leb (productionCalls l p) c) refl refl
     where
       facts : CheckFacts l
       facts = whole-facts l w
 
-      go : (a b : Bool) → leb (productionCount l) p ≡ a → leb (productionCalls l p) c ≡ b
-          → Among (cond a Place.Nothing (cond b Place.Nothing (Place.At (callsFrom l p + c))))
+      go : (a b : Bool) → leb (productionTotal l) p ≡ a → leb (productionCalls l p) c ≡ b
+          → Among (cond a Place.Nothing (cond b Place.Nothing (Place.At (firstCall l p + c))))
       go true b e f = tt
       go false true e f = tt
       go false false e f =
-          let h = leb-false (productionCount l) p e in
+          let h = leb-false (productionTotal l) p e in
           let q = leb-false (productionCalls l p) c f in
           omega (arith, calls-within l (facts .sums) p h)
 
-  pub place-below : (p c i : ℕ) → whole l ≡ true → placeOf l p c ≡ Place.At i → i < callCount l
+  pub place-below : (p c i : ℕ) → whole l ≡ true → placeOf l p c ≡ Place.At i → i < callTotal l
   place-below p c i w e = rw e at (place-among p c w)
 
   -- ---- Parameters of a call
 
   pub parameters-here : (p c i : ℕ) → placeOf l p c ≡ Place.At i → asking.parameterCount (decode l) p c ≡ Counted.Accepted (callParameters l i)
-  unfolding asking.parameterCount callAt
+  unfolding asking.parameterCount callEntry
   parameters-here p c i e =
-      ap parametersOf (call-there p c ∙ ap callThere e) ∙ ap Counted.Accepted (length-run (parameterAt l) (parametersFrom l i) (callParameters l i))
+      ap parametersAsked (call-there p c ∙ ap callThere e) ∙ ap Counted.Accepted (length-run (parameterEntry l) (firstParameter l i) (callParameters l i))
 
   pub parameters-past : (p c : ℕ) → placeOf l p c ≡ Place.Nothing → asking.parameterCount (decode l) p c ≡ Counted.Refused 16
   unfolding asking.parameterCount
-  parameters-past p c e = ap parametersOf (call-there p c ∙ ap callThere e)
+  parameters-past p c e = ap parametersAsked (call-there p c ∙ ap callThere e)
 
-  pub parameter-below : (i k : ℕ) → whole l ≡ true → i < callCount l → k < callParameters l i → parametersFrom l i + k < 256
-  unfolding callCount callParameters parametersFrom
+  pub parameter-below : (i k : ℕ) → whole l ≡ true → i < callTotal l → k < callParameters l i → firstParameter l i + k < 256
+  unfolding callTotal callParameters firstParameter
   parameter-below i k w h q =
       let facts : CheckFacts l = whole-facts l w in
       omega (arith, parameters-within l (facts .sums) i h, facts .header .parameters)
 
   -- ---- Limits
 
-  pub productions-below : whole l ≡ true → productionCount l ≤ 64
-  unfolding productionCount
+  pub productions-below : whole l ≡ true → productionTotal l ≤ 64
+  unfolding productionTotal
   productions-below w = whole-facts l w .header .productions
 
-  pub calls-below : whole l ≡ true → callCount l ≤ 128
-  unfolding callCount
+  pub calls-below : whole l ≡ true → callTotal l ≤ 128
+  unfolding callTotal
   calls-below w = whole-facts l w .header .calls
 
   -- ---- Where
 
-  pub name-here : (p c i : ℕ) → placeOf l p c ≡ Place.At i → locatedName (decode l) p c ≡ located (markAt l i) (nameAt l i)
-  unfolding locatedName callAt
-  name-here p c i e = ap nameOf (call-there p c ∙ ap callThere e)
+  pub name-here : (p c i : ℕ) → placeOf l p c ≡ Place.At i → locatedName (decode l) p c ≡ located (markEntry l i) (nameEntry l i)
+  unfolding locatedName callEntry
+  name-here p c i e = ap nameAsked (call-there p c ∙ ap callThere e)
 
   pub name-past : (p c : ℕ) → placeOf l p c ≡ Place.Nothing → locatedName (decode l) p c ≡ Located.Refused 16
   unfolding locatedName
-  name-past p c e = ap nameOf (call-there p c ∙ ap callThere e)
+  name-past p c e = ap nameAsked (call-there p c ∙ ap callThere e)
 
   pub parameter-here : (p c i k : ℕ) → placeOf l p c ≡ Place.At i → k < callParameters l i
-      → locatedParameter (decode l) p c k ≡ located (markAt l i) (parameterAt l (parametersFrom l i + k))
-  unfolding locatedParameter callAt
+      → locatedParameter (decode l) p c k ≡ located (markEntry l i) (parameterEntry l (firstParameter l i + k))
+  unfolding locatedParameter callEntry
   parameter-here p c i k e h =
       ap (λ (o : Option Call). parameterOf o k) (call-there p c ∙ ap callThere e)
-      ∙ ap (spanOf (markAt l i)) (at-run (parameterAt l) (parametersFrom l i) (callParameters l i) k h)
+      ∙ ap (spanOf (markEntry l i)) (at-run (parameterEntry l) (firstParameter l i) (callParameters l i) k h)
 
   pub parameter-past : (p c i k : ℕ) → placeOf l p c ≡ Place.At i → callParameters l i ≤ k
       → locatedParameter (decode l) p c k ≡ Located.Refused 16
-  unfolding locatedParameter callAt
+  unfolding locatedParameter callEntry
   parameter-past p c i k e h =
       ap (λ (o : Option Call). parameterOf o k) (call-there p c ∙ ap callThere e)
-      ∙ ap (spanOf (markAt l i)) (at-past (parameterAt l) (parametersFrom l i) (callParameters l i) k h)
+      ∙ ap (spanOf (markEntry l i)) (at-past (parameterEntry l) (firstParameter l i) (callParameters l i) k h)
 
   pub parameter-none : (p c k : ℕ) → placeOf l p c ≡ Place.Nothing → locatedParameter (decode l) p c k ≡ Located.Refused 16
   unfolding locatedParameter

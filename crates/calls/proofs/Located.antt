@@ -11,7 +11,7 @@ use borrow.Author.Tests.{leb-true, ltb-false}
 use Rattle.words.proofs.Bools.{and-left, and-right, or-no-left, or-no-right}
 use Rattle.model.specs.Lists.{all}
 use Rattle.model.specs.Tables.{Call, Production, Table}
-use Rattle.model.specs.Asking.{at, askedProduction, callIn, askedCall, located, nameOf, spanOf, parameterOf, locatedName, locatedParameter}
+use Rattle.model.specs.Asking.{at, askedProduction, callIn, askedCall, located, nameAsked, spanOf, parameterOf, locatedName, locatedParameter}
 use Rattle.model.specs.declared.scan.Span.{Span}
 use Rattle.tables.specs.Layout.{flat}
 use Rattle.tables.specs.Reading.{decode}
@@ -21,7 +21,7 @@ use Rattle.tables.proofs.Facts.{fit-facts, call-facts}
 use Rattle.tables.proofs.Theorems.{whole-holds}
 use Rattle.calls.specs.Refusals.{textsShort}
 use Rattle.calls.specs.Answers.{nameAnswer, parameterAnswer}
-use Rattle.calls.specs.Parts.{Within}
+use Rattle.calls.specs.Parts.{PartWithin}
 use Rattle.calls.proofs.Orders.{lent-whole, lent-texts, answer-within}
 
 -- ---- What holds of every element holds of the one that is asked for
@@ -57,7 +57,7 @@ module _ (t : Table) (fit : fitting t ≡ true) where
       (each-at (λ (q : Production). all (callInRange t) (q .calls)) (t .productions) p (all-of-flat (callInRange t) (t .productions) (fit-facts t fit .calls)))
 
   module _ (first second : List ℕ) (long : textsShort t first second ≡ false) where
-    located-within : (m : Bool) (s : Span) → s .start + s .len ≤ textLength t m → Within first second (located m s)
+    located-within : (m : Bool) (s : Span) → s .start + s .len ≤ textLength t m → PartWithin first second (located m s)
     located-within true s h =
         let b = ltb-false (length second) (t .secondLength) (or-no-right (ltb (length first) (t .firstLength)) (ltb (length second) (t .secondLength)) long) in
         omega arith
@@ -65,37 +65,37 @@ module _ (t : Table) (fit : fitting t ≡ true) where
         let b = ltb-false (length first) (t .firstLength) (or-no-left (ltb (length first) (t .firstLength)) (ltb (length second) (t .secondLength)) long) in
         omega arith
 
-    name-of-within : (o : Option Call) → Each (callInRange t) o → Within first second (nameOf o)
+    name-of-within : (o : Option Call) → Each (callInRange t) o → PartWithin first second (nameAsked o)
     name-of-within none e = tt
     name-of-within (some k) e = located-within (k .second) (k .name) (call-facts t k e .name)
 
-    pub name-within : (p c : ℕ) → Within first second (locatedName t p c)
+    pub name-within : (p c : ℕ) → PartWithin first second (locatedName t p c)
     unfolding locatedName
     name-within p c = name-of-within (askedCall t p c) (asked-in-range p c)
 
-    span-of-within : (m : Bool) (o : Option Span) → Each (spanInText (textLength t m)) o → Within first second (spanOf m o)
+    span-of-within : (m : Bool) (o : Option Span) → Each (spanInText (textLength t m)) o → PartWithin first second (spanOf m o)
     unfolding spanInText
     span-of-within m none e = tt
     span-of-within m (some s) e = located-within m s (leb-true (s .start + s .len) (textLength t m) e)
 
-    parameter-of-within : (o : Option Call) (k : ℕ) → Each (callInRange t) o → Within first second (parameterOf o k)
+    parameter-of-within : (o : Option Call) (k : ℕ) → Each (callInRange t) o → PartWithin first second (parameterOf o k)
     parameter-of-within none k e = tt
     parameter-of-within (some c) k e =
         span-of-within (c .second) (at (c .parameters) k) (each-at (spanInText (textLength t (c .second))) (c .parameters) k (call-facts t c e .parameters))
 
-    pub parameter-within : (p c k : ℕ) → Within first second (locatedParameter t p c k)
+    pub parameter-within : (p c k : ℕ) → PartWithin first second (locatedParameter t p c k)
     unfolding locatedParameter
     parameter-within p c k = parameter-of-within (askedCall t p c) k (asked-in-range p c)
 
 -- ---- Every answer lies in its text
 
 module _ (table first second : List ℕ) where
-  pub name-answer-within : (p c : ℕ) → Within first second (nameAnswer table first second p c)
+  pub name-answer-within : (p c : ℕ) → PartWithin first second (nameAnswer table first second p c)
   name-answer-within p c =
       answer-within table first second (locatedName (decode table) p c)
       (λ e. name-within (decode table) (whole-holds table (lent-whole table first second e) .fits) first second (lent-texts table first second e) p c)
 
-  pub parameter-answer-within : (p c k : ℕ) → Within first second (parameterAnswer table first second p c k)
+  pub parameter-answer-within : (p c k : ℕ) → PartWithin first second (parameterAnswer table first second p c k)
   parameter-answer-within p c k =
       answer-within table first second (locatedParameter (decode table) p c k)
       (λ e. parameter-within (decode table) (whole-holds table (lent-whole table first second e) .fits) first second (lent-texts table first second e) p c k)

@@ -11,7 +11,7 @@ use borrow.Author.Tests.{le-ltb}
 use Rattle.words.proofs.Bools.{or-neither}
 use Rattle.model.specs.Tables.{Call, Production, Table}
 use Rattle.model.specs.Compiling.{accepted, compiled}
-use Rattle.model.specs.Asking.{at, askedProduction, callIn, askedCall, callsOf, parametersOf, nameOf, spanOf, parameterOf, productionCount, callCount, parameterCount, locatedName, locatedParameter}
+use Rattle.model.specs.Asking.{at, askedProduction, callIn, askedCall, callsAsked, parametersAsked, nameAsked, spanOf, parameterOf, productionCount, callCount, parameterCount, locatedName, locatedParameter}
 use Rattle.model.specs.declared.scan.Span.{Span}
 use Rattle.model.specs.declared.answers.Located.{Located}
 use Rattle.tables.specs.Layout.{encode}
@@ -32,15 +32,15 @@ use Rattle.calls.proofs.WrittenTables.{ProductionsWritten, OwnTable, co
 
 -- ---- What a table says is a count, a place or 16
 
-settled-calls : (o : Option Production) → settledCount (callsOf o) ≡ callsOf o
+settled-calls : (o : Option Production) → settledCount (callsAsked o) ≡ callsAsked o
 settled-calls none = refl
 settled-calls (some p) = refl
 
-settled-parameters : (o : Option Call) → settledCount (parametersOf o) ≡ parametersOf o
+settled-parameters : (o : Option Call) → settledCount (parametersAsked o) ≡ parametersAsked o
 settled-parameters none = refl
 settled-parameters (some c) = refl
 
-settled-name : (o : Option Call) → settledPlace (nameOf o) ≡ nameOf o
+settled-name : (o : Option Call) → settledPlace (nameAsked o) ≡ nameAsked o
 settled-name none = refl
 settled-name (some c) = settled-located (c .second) (c .name)
 
@@ -129,7 +129,7 @@ module _ (text second rest : List ℕ) (t : Table) (e : compiled text ≡ accept
 
     place-name : locatedName t p c ≡ Located.First (call .name .start) (call .name .len)
     unfolding locatedName
-    place-name = ap nameOf asked ∙ rw (written .first)
+    place-name = ap nameAsked asked ∙ rw (written .first)
 
     place-parameter : (k : ℕ) (s : Span) → at (call .parameters) k ≡ some s → locatedParameter t p c k ≡ Located.First (s .start) (s .len)
     unfolding locatedParameter
@@ -152,7 +152,7 @@ module _ (text second rest : List ℕ) (t : Table) (e : compiled text ≡ accept
           within = rw place-name at (reads .nameWithin p c);
           bytes = part-first text second (nameAnswer (encode t ++ rest) text second p c) (call .name) (reads .name p c ∙ place-name);
           written = written .name;
-          count = reads .parameters p c ∙ ap parametersOf asked;
+          count = reads .parameters p c ∙ ap parametersAsked asked;
           parameters = reads-parameter;
         }
 

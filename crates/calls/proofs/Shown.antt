@@ -14,7 +14,7 @@ use Rattle.model.specs.declared.answers.Counted.{Counted}
 use Rattle.tables.specs.Layout.{encode}
 use Rattle.calls.specs.Parts.{partOf, parameterPart}
 use Rattle.calls.specs.ReadOut.{ReadsCall}
-use Rattle.calls.specs.Examples.{Example, examples, Shown, AllShown}
+use Rattle.calls.specs.Examples.{ReadExample, readExamples, Shown, AllShown}
 use Rattle.calls.proofs.ReadBack.{read-out, call-first}
 use Rattle.model.specs.Bytes.{isAllowed, firstBadByte, isBlank, isDigit, isLetter, belongs, runEnd, skip}
 use Rattle.model.specs.Lines.{lineEnd, lineAt, isBlankLine, directiveOf, directiveAt}
@@ -33,23 +33,23 @@ use Rattle.model.specs.Compiling.{productionPasses, totalsPass, passesLimit, li
 abbrev bytesIn : List ℕ → Span → List ℕ
 bytesIn text s = take (s .len) (drop (s .start) text)
 
-abbrev exampleOf : List ℕ → Call → Example
+abbrev exampleOf : List ℕ → Call → ReadExample
 exampleOf text c = record { text = text; name = bytesIn text (c .name); parameters = map (bytesIn text) (c .parameters) }
 
-abbrev ofCall : List ℕ → Option Call → Option Example
+abbrev ofCall : List ℕ → Option Call → Option ReadExample
 ofCall text none = none
 ofCall text (some c) = some (exampleOf text c)
 
-abbrev ofOutcome : List ℕ → Outcome → Option Example
+abbrev ofOutcome : List ℕ → Outcome → Option ReadExample
 ofOutcome text (refused n place) = none
 ofOutcome text (accepted t) = ofCall text (askedCall t 0 0)
 
-abbrev written : Example → Option Example
+abbrev written : ReadExample → Option ReadExample
 written x = ofOutcome (x .text) (compiled (x .text))
 
 -- every text of the table, compiled
-computed : map written examples ≡ map (λ (x : Example). some x) examples
-unfolding isAllowed firstBadByte isBlank isDigit isLetter belongs runEnd skip lineEnd lineAt isBlankLine directiveOf directiveAt modifierEntries modifierNamed protocolEntries synonymEntries abbreviationEntries typeEntries typeNamed digitValue digitsFrom numberIn keysymEntries keyDetail buttonEntries motionEntries modeEntries requestEntries smallNumber nameOrNumber detailNamed keysymFrom nameFrom modifierNameAt modifierFrom modifierAt modifiersFrom leadColon leadFrom leadAt listOf typeFrom typeRun typeName typeAt countClose countPlus countRun countDigits countFrom countAt plainEventAt markedKey keyAt keysFrom keySequenceAt eventsFrom eventsAt afterEventFrom afterEventAt leftFrom leftSide parameterEnd quotedFrom unquotedFrom parameterFrom parameterAt parametersFrom parametersPast parametersAt callNameFrom callFrom callAt callsFrom rightSide mask listsSet listsClear asksSet asksClear setMask clearMask keepsClause stateMeets noStateMeets releasePress pressRelease elementsAt elementsOf expanded sequence detailOf keptDetail keptEvent eventNumber judgedWritten judged productionPasses totalsPass passesLimit lineRead judgedAll lineOutcome linesFrom linesOf compiled examples askedCall askedProduction
+computed : map written readExamples ≡ map (λ (x : ReadExample). some x) readExamples
+unfolding isAllowed firstBadByte isBlank isDigit isLetter belongs runEnd skip lineEnd lineAt isBlankLine directiveOf directiveAt modifierEntries modifierNamed protocolEntries synonymEntries abbreviationEntries typeEntries typeNamed digitValue digitsFrom numberIn keysymEntries keyDetail buttonEntries motionEntries modeEntries requestEntries smallNumber nameOrNumber detailNamed keysymFrom nameFrom modifierNameAt modifierFrom modifierAt modifiersFrom leadColon leadFrom leadAt listOf typeFrom typeRun typeName typeAt countClose countPlus countRun countDigits countFrom countAt plainEventAt markedKey keyAt keysFrom keySequenceAt eventsFrom eventsAt afterEventFrom afterEventAt leftFrom leftSide parameterEnd quotedFrom unquotedFrom parameterFrom parameterAt parametersFrom parametersPast parametersAt callNameFrom callFrom callAt callsFrom rightSide mask listsSet listsClear asksSet asksClear setMask clearMask keepsClause stateMeets noStateMeets releasePress pressRelease elementsAt elementsOf expanded sequence detailOf keptDetail keptEvent eventNumber judgedWritten judged productionPasses totalsPass passesLimit lineRead judgedAll lineOutcome linesFrom linesOf compiled readExamples askedCall askedProduction
 computed = refl
 
 -- ---- A text whose first call is as the example says is read so
@@ -84,30 +84,30 @@ module _ (text : List ℕ) (t : Table) (e : compiled text ≡ accepted t) (c : C
         parameter = parameter-shown;
       }
 
-none-some : (x : Example) → _≡_ {A = Option Example} none (some x) → ⊥
+none-some : (x : ReadExample) → _≡_ {A = Option ReadExample} none (some x) → ⊥
 none-some x e = let z : _≡_ {A = ℕ} 0 1 = cc in omega arith
 
-same-some : (x y : Example) → _≡_ {A = Option Example} (some x) (some y) → x ≡ y
+same-some : (x y : ReadExample) → _≡_ {A = Option ReadExample} (some x) (some y) → x ≡ y
 same-some x y e = cc
 
-heads : {x y : Option Example} {xs ys : List (Option Example)} → _≡_ {A = List (Option Example)} (x ∷ xs) (y ∷ ys) → x ≡ y
+heads : {x y : Option ReadExample} {xs ys : List (Option ReadExample)} → _≡_ {A = List (Option ReadExample)} (x ∷ xs) (y ∷ ys) → x ≡ y
 heads e = cc
 
-tails : {x y : Option Example} {xs ys : List (Option Example)} → _≡_ {A = List (Option Example)} (x ∷ xs) (y ∷ ys) → xs ≡ ys
+tails : {x y : Option ReadExample} {xs ys : List (Option ReadExample)} → _≡_ {A = List (Option ReadExample)} (x ∷ xs) (y ∷ ys) → xs ≡ ys
 tails e = cc
 
-shown-call : (x : Example) (t : Table) (o : Option Call) → compiled (x .text) ≡ accepted t → askedCall t 0 0 ≡ o → ofCall (x .text) o ≡ some x → Shown x t
+shown-call : (x : ReadExample) (t : Table) (o : Option Call) → compiled (x .text) ≡ accepted t → askedCall t 0 0 ≡ o → ofCall (x .text) o ≡ some x → Shown x t
 shown-call x t none e a q = absurd (none-some x q)
 shown-call x t (some c) e a q = rw (same-some (exampleOf (x .text) c) x q) at (call-shown (x .text) t e c a)
 
-shown-outcome : (x : Example) (o : Outcome) → compiled (x .text) ≡ o → ofOutcome (x .text) o ≡ some x → (t : Table) × Shown x t
+shown-outcome : (x : ReadExample) (o : Outcome) → compiled (x .text) ≡ o → ofOutcome (x .text) o ≡ some x → (t : Table) × Shown x t
 shown-outcome x (refused n place) e q = absurd (none-some x q)
 shown-outcome x (accepted t) e q = (t, shown-call x t (askedCall t 0 0) e refl q)
 
-all-shown : (xs : List Example) → map written xs ≡ map (λ (x : Example). some x) xs → AllShown xs
+all-shown : (xs : List ReadExample) → map written xs ≡ map (λ (x : ReadExample). some x) xs → AllShown xs
 all-shown [] e = tt
 all-shown (x ∷ xs) e = (shown-outcome x (compiled (x .text)) refl (heads e), all-shown xs (tails e))
 
 -- every line of the table
-pub examples-shown : AllShown examples
-examples-shown = all-shown examples computed
+pub examples-shown : AllShown readExamples
+examples-shown = all-shown readExamples computed

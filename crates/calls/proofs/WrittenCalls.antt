@@ -9,7 +9,7 @@ use lib.ListN.{length}
 use borrow.Author.Tests.{leb-false, eqb-false, not-false}
 use Rattle.model.specs.Bytes.{isNewline, belongs, runEnd, skip, byteAt, signAt}
 use Rattle.model.specs.Lines.{lineAt}
-use Rattle.model.specs.Calls.{WrittenCall, span, parameterEnd, quotedFrom, unquotedFrom, parameterFrom, parameterAt, Parameters, parameters, oneMore, parametersNext, parametersFrom, parametersPast, parametersAt, callNameFrom, callFrom, callAt, CallsRead, calls, oneMoreCall, withParameters, callsNext, callsFrom, rightSide}
+use Rattle.model.specs.Calls.{WrittenCall, span, parameterEnd, quotedFrom, unquotedFrom, parameterFrom, parameterAt, Parameters, parameters, oneParameterMore, parametersNext, parametersFrom, parametersPast, parametersAt, callNameFrom, callFrom, callAt, CallsRead, calls, oneMoreCall, withParameters, callsNext, callsFrom, rightSide}
 use Rattle.model.specs.Tables.{Call}
 use Rattle.model.specs.Compiling.{inText, callOf}
 use Rattle.model.specs.declared.scan.Class.{Class}
@@ -80,7 +80,7 @@ abbrev ParametersIn : List ℕ → Parameters → Type 0
 ParametersIn l Parameters.broken = Unit
 ParametersIn l (parameters ss next) = Each l ss
 
-more-in : (l : List ℕ) (s : Span) (r : Parameters) → ParameterIn l s → ParametersIn l r → ParametersIn l (oneMore s r)
+more-in : (l : List ℕ) (s : Span) (r : Parameters) → ParameterIn l s → ParametersIn l r → ParametersIn l (oneParameterMore s r)
 more-in l s Parameters.broken p g = tt
 more-in l s (parameters ss next) p g = (p, g)
 

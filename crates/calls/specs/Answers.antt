@@ -7,7 +7,7 @@ use Rattle.model.specs.Asking.{productionCount, callCount, parameterCount, loca
 use Rattle.model.specs.declared.answers.Counted.{Counted}
 use Rattle.model.specs.declared.answers.Located.{Located}
 use Rattle.tables.specs.Reading.{decode}
-use Rattle.calls.specs.Refusals.{isShort, notWhole, lentNotWhole}
+use Rattle.calls.specs.Refusals.{isShort, tableBroken, lentNotWhole}
 
 -- ---- How many
 
@@ -16,13 +16,13 @@ noCount (Counted.Accepted k) = false
 noCount (Counted.Refused n) = true
 
 -- a number is a refusal, and 0 lets the answer stand
-abbrev pub counted : ℕ → Counted → Counted
-counted zero asked = asked
-counted (suc n) asked = Counted.Refused (suc n)
+abbrev pub orRefused : ℕ → Counted → Counted
+orRefused zero asked = asked
+orRefused (suc n) asked = Counted.Refused (suc n)
 
 -- "1 for the table, 12, 16"
 unfoldable pub countAnswer : List ℕ → Counted → Counted
-countAnswer table asked = counted (readOrder (isShort table) (notWhole table) (noCount asked)) asked
+countAnswer table asked = orRefused (readOrder (isShort table) (tableBroken table) (noCount asked)) asked
 
 abbrev pub productionsAnswer : List ℕ → Counted
 productionsAnswer table = countAnswer table (productionCount (decode table))

@@ -13,13 +13,13 @@ use Rattle.calls.specs.Answers.{parametersAnswer}
 use Rattle.calls.specs.Parts.{namePart, parameterPart}
 
 -- the first call of a text: its name, and its parameters without quotes
-pub record Example : Type 0 where
+pub record ReadExample : Type 0 where
   pub text : List ℕ
   pub name : List ℕ
   pub parameters : List (List ℕ)
 
-unfoldable pub examples : List Example
-examples =
+unfoldable pub readExamples : List ReadExample
+readExamples =
     record { text = bytes "<Key>a:f()"; name = bytes "f"; parameters = [] }
     ∷ record { text = bytes "<Key>a:f(\"\")"; name = bytes "f"; parameters = [] ∷ [] }
     ∷ record { text = bytes "<Key>a:f(,)"; name = bytes "f"; parameters = [] ∷ [] ∷ [] }
@@ -31,12 +31,12 @@ examples =
 
 -- the text is accepted, and its table's bytes, whatever stands after them, give this name and these parameters;
 -- past the last parameter the part is empty
-pub record Shown (x : Example) (t : Table) : Type 0 where
+pub record Shown (x : ReadExample) (t : Table) : Type 0 where
   pub compiles : compiled (x .text) ≡ accepted t
   pub name : (rest second : List ℕ) → namePart (encode t ++ rest) (x .text) second 0 0 ≡ x .name
   pub count : (rest : List ℕ) → parametersAnswer (encode t ++ rest) 0 0 ≡ Counted.Accepted (length (x .parameters))
   pub parameter : (rest second : List ℕ) (k : ℕ) → parameterPart (encode t ++ rest) (x .text) second 0 0 k ≡ getD (x .parameters) k []
 
-abbrev pub AllShown : List Example → Type 0
+abbrev pub AllShown : List ReadExample → Type 0
 AllShown [] = Unit
 AllShown (x ∷ xs) = ((t : Table) × Shown x t) × AllShown xs

@@ -5,7 +5,7 @@ use mathlib.Core.List.{List}
 use lib.ListN.{length}
 use denote.Ref.{RefT, ptr, now}
 use Rattle.model.specs.Numbers.{locatedInSecond, locatedStart, locatedLength}
-use Rattle.model.specs.Asking.{bytesOf}
+use Rattle.model.specs.Asking.{partBytes}
 use Rattle.model.specs.declared.answers.Located.{Located}
 use Rattle.calls.specs.Answers.{nameAnswer, parameterAnswer}
 
@@ -13,13 +13,13 @@ use Rattle.calls.specs.Answers.{nameAnswer, parameterAnswer}
 -- parameter's without quotes, as a part of the text."
 unfoldable pub partOf : (first second : List ℕ) → Located → List ℕ
 partOf first second place =
-    bytesOf first second (locatedInSecond place) (record { start = locatedStart place; len = locatedLength place })
+    partBytes first second (locatedInSecond place) (record { start = locatedStart place; len = locatedLength place })
 
 -- the part lies in its text
-abbrev pub Within : (first second : List ℕ) → Located → Type 0
-Within first second (Located.First start len) = start + len ≤ length first
-Within first second (Located.Second start len) = start + len ≤ length second
-Within first second (Located.Refused n) = Unit
+abbrev pub PartWithin : (first second : List ℕ) → Located → Type 0
+PartWithin first second (Located.First start len) = start + len ≤ length first
+PartWithin first second (Located.Second start len) = start + len ≤ length second
+PartWithin first second (Located.Refused n) = Unit
 
 abbrev pub namePart : (table first second : List ℕ) → (production call : ℕ) → List ℕ
 namePart table first second production call = partOf first second (nameAnswer table first second production call)

@@ -17,7 +17,7 @@ use Rattle.model.specs.declared.answers.Counted.{Counted}
 use Rattle.model.specs.declared.answers.Located.{Located}
 use Rattle.tables.specs.Layout.{encode}
 use Rattle.calls.specs.Answers.{productionsAnswer, callsAnswer, parametersAnswer, nameAnswer, parameterAnswer}
-use Rattle.calls.specs.Parts.{Within, namePart, parameterPart}
+use Rattle.calls.specs.Parts.{PartWithin, namePart, parameterPart}
 
 -- ---- A name and a parameter as a text has them
 
@@ -46,8 +46,8 @@ pub record ReadsTable (t : Table) (table first second : List ℕ) : Type 0 where
   pub parameters : (p c : ℕ) → parametersAnswer table p c ≡ parameterCount t p c
   pub name : (p c : ℕ) → nameAnswer table first second p c ≡ locatedName t p c
   pub parameter : (p c k : ℕ) → parameterAnswer table first second p c k ≡ locatedParameter t p c k
-  pub nameWithin : (p c : ℕ) → Within first second (locatedName t p c)
-  pub parameterWithin : (p c k : ℕ) → Within first second (locatedParameter t p c k)
+  pub nameWithin : (p c : ℕ) → PartWithin first second (locatedName t p c)
+  pub parameterWithin : (p c k : ℕ) → PartWithin first second (locatedParameter t p c k)
 
 -- for a parameter s, number k of call c of production p: its bytes in the text, without quotes
 pub record ReadsParameter (text second table : List ℕ) (p c k : ℕ) (s : Span) : Type 0 where

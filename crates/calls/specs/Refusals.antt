@@ -15,19 +15,19 @@ abbrev pub isShort : List ℕ → Bool
 isShort table = ltb (length table) tableLength
 
 -- "12: table not whole"
-abbrev pub notWhole : List ℕ → Bool
-notWhole table = not (whole table)
+abbrev pub tableBroken : List ℕ → Bool
+tableBroken table = not (whole table)
 
 -- "a lent text shorter than that is 12": than the length that the table keeps
 abbrev pub textsShort : Table → (first second : List ℕ) → Bool
 textsShort t first second = ltb (length first) (t .firstLength) || ltb (length second) (t .secondLength)
 
 abbrev pub lentNotWhole : (table first second : List ℕ) → Bool
-lentNotWhole table first second = notWhole table || textsShort (decode table) first second
+lentNotWhole table first second = tableBroken table || textsShort (decode table) first second
 
 -- the number where nothing absent was asked for: of a table alone, and of a table with its texts
 unfoldable pub tableRefusal : List ℕ → ℕ
-tableRefusal table = readOrder (isShort table) (notWhole table) false
+tableRefusal table = readOrder (isShort table) (tableBroken table) false
 
 unfoldable pub lentRefusal : (table first second : List ℕ) → ℕ
 lentRefusal table first second = readOrder (isShort table) (lentNotWhole table first second) false

@@ -5,14 +5,12 @@ use model::answers::Located;
 use model::scan::Span;
 ghost use mathlib.Core.Path.{_≡_};
 ghost use mathlib.Core.Bool.{true};
-ghost use Prim.Native.Nat.{_≤_};
-ghost use lib.ListN.{length};
 ghost use Rattle.model.specs.Asking.{located};
 ghost use Rattle.tables.specs.Whole.{whole};
 ghost use Rattle.calls.specs.Refusals.{tableRefusal, lentRefusal};
 ghost use Rattle.calls.specs.Places.{placeOf};
 ghost use Rattle.calls.specs.Answers.{productionsAnswer, callsAnswer, parametersAnswer, nameAnswer, parameterAnswer};
-ghost use Rattle.calls.specs.Parts.{Within, IsPart};
+ghost use Rattle.calls.specs.Parts.{PartWithin, IsPart};
 
 // The place of a call among all calls of the table.
 pub enum Place {
@@ -26,7 +24,7 @@ pub enum Place {
 fn table_refusal(table: &[u8]) -> u8
     ensures { λ r. ⌜ r ≡ tableRefusal (now (table .entry)) ⌝ }
 {
-    if table.len() < 5904 {
+    if table.len() < tables::TABLE_LENGTH {
         return 1;
     }
     if !tables::check::whole(table) {
@@ -39,7 +37,7 @@ fn table_refusal(table: &[u8]) -> u8
 fn lent_refusal(table: &[u8], first: &[u8], second: &[u8]) -> u8
     ensures { λ r. ⌜ r ≡ lentRefusal (now (table .entry)) (now (first .entry)) (now (second .entry)) ⌝ }
 {
-    if table.len() < 5904 {
+    if table.len() < tables::TABLE_LENGTH {
         return 1;
     }
     if !tables::check::whole(table) {
@@ -184,7 +182,7 @@ pub fn locate_parameter(
 
 // A part of one of two texts; the empty part at the start of the first for a refusal.
 fn part<'a>(first: &'a [u8], second: &'a [u8], place: Located) -> &'a [u8]
-    requires { ⌜ Within (now first) (now second) place ⌝ }
+    requires { ⌜ PartWithin (now first) (now second) place ⌝ }
     ensures { λ r. ⌜ IsPart (first .entry) (second .entry) r place ⌝ }
 {
     match place {

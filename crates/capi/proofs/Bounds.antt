@@ -20,7 +20,7 @@ use Rattle.model.specs.Asking as asking
 use Rattle.model.specs.declared.events.Directive.{Directive}
 use Rattle.model.specs.declared.answers.Counted.{Counted}
 use Rattle.model.specs.declared.answers.Located.{Located}
-use Rattle.tables.specs.Reading.{decode, productionCount, firstLengthIn, secondLengthIn}
+use Rattle.tables.specs.Reading.{decode, productionTotal, firstLengthIn, secondLengthIn}
 use Rattle.tables.specs.Whole.{whole}
 use Rattle.words.proofs.Laws.{length-zeros}
 use Rattle.tables.proofs.Positions.{cond-both}
@@ -28,9 +28,9 @@ use Rattle.tables.proofs.WholeFacts.{facts-of-whole}
 use Rattle.tables.proofs.Theorems.{whole-holds}
 use Rattle.calls.specs.declared.Place.{Place}
 use Rattle.calls.specs.Places.{placeOf}
-use Rattle.calls.specs.Parts.{Within}
-use Rattle.calls.specs.Refusals.{isShort, notWhole, textsShort, lentNotWhole, tableRefusal, lentRefusal}
-use Rattle.calls.specs.Answers.{noCount, counted, countAnswer, productionsAnswer, callsAnswer, parametersAnswer, noPlace, placed, placeAnswer, nameAnswer, parameterAnswer}
+use Rattle.calls.specs.Parts.{PartWithin}
+use Rattle.calls.specs.Refusals.{isShort, tableBroken, textsShort, lentNotWhole, tableRefusal, lentRefusal}
+use Rattle.calls.specs.Answers.{noCount, orRefused, countAnswer, productionsAnswer, callsAnswer, parametersAnswer, noPlace, placed, placeAnswer, nameAnswer, parameterAnswer}
 use Rattle.calls.proofs.Orders.{table-whole, lent-whole}
 use Rattle.calls.proofs.Asked.{productions-here, calls-here, calls-past, parameters-here, parameters-past, place-below}
 use Rattle.calls.proofs.Located.{name-within, parameter-within}
@@ -105,7 +105,7 @@ place-small false text = compiled-place text
 
 module _ (table : List ℕ) where
   stops-small : (a b : Bool) (asked : Counted) → (readOrder a b false ≡ 0 → countedCount asked ≤ 64)
-      → countedCount (counted (readOrder a b (noCount asked)) asked) ≤ 64
+      → countedCount (orRefused (readOrder a b (noCount asked)) asked) ≤ 64
   stops-small true b asked h = omega arith
   stops-small false true asked h = omega arith
   stops-small false false (Counted.Accepted k) h = h refl
@@ -113,20 +113,20 @@ module _ (table : List ℕ) where
 
   count-small : (asked : Counted) → (whole table ≡ true → countedCount asked ≤ 64) → countedCount (countAnswer table asked) ≤ 64
   unfolding countAnswer tableRefusal
-  count-small asked h = stops-small (isShort table) (notWhole table) asked (λ e. h (table-whole table e))
+  count-small asked h = stops-small (isShort table) (tableBroken table) asked (λ e. h (table-whole table e))
 
   pub productions-small : countedCount (productionsAnswer table) ≤ 64
   productions-small =
       count-small (asking.productionCount (decode table)) (λ w. rw (productions-here table) (facts-of-whole table w .productions))
 
-  calls-of : (p : ℕ) → whole table ≡ true → (b : Bool) → leb (productionCount table) p ≡ b → countedCount (asking.callCount (decode table) p) ≤ 64
-  calls-of p w true e = rw (calls-past table p (leb-true (productionCount table) p e)) (omega arith)
+  calls-of : (p : ℕ) → whole table ≡ true → (b : Bool) → leb (productionTotal table) p ≡ b → countedCount (asking.callCount (decode table) p) ≤ 64
+  calls-of p w true e = rw (calls-past table p (leb-true (productionTotal table) p e)) (omega arith)
   calls-of p w false e =
-      let h = leb-false (productionCount table) p e in
+      let h = leb-false (productionTotal table) p e in
       rw (calls-here table p h) (let k = facts-of-whole table w .fewCalls p h in omega arith)
 
   pub calls-small : (p : ℕ) → countedCount (callsAnswer table p) ≤ 64
-  calls-small p = count-small (asking.callCount (decode table) p) (λ w. calls-of p w (leb (productionCount table) p) refl)
+  calls-small p = count-small (asking.callCount (decode table) p) (λ w. calls-of p w (leb (productionTotal table) p) refl)
 
   parameters-of : (p c : ℕ) → whole table ≡ true → (r : Place) → placeOf table p c ≡ r → countedCount (asking.parameterCount (decode table) p c) ≤ 64
   parameters-of p c w (Place.At i) e =
@@ -155,7 +155,7 @@ module _ (table first second : List ℕ) where
   place-short asked h = stops-short (isShort table) (lentNotWhole table first second) asked (λ e. h (lent-whole table first second e))
 
 -- a part that lies in texts of at most 8,192 bytes
-end-within : (first second : List ℕ) (a : Located) → Within first second a → length first ≤ 8192 → length second ≤ 8192 → endOf a ≤ 8192
+end-within : (first second : List ℕ) (a : Located) → PartWithin first second a → length first ≤ 8192 → length second ≤ 8192 → endOf a ≤ 8192
 end-within first second (Located.First s n) w p q = omega arith
 end-within first second (Located.Second s n) w p q = omega arith
 end-within first second (Located.Refused n) w p q = omega arith

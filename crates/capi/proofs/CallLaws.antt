@@ -25,7 +25,7 @@ use Rattle.tables.proofs.Positions.{cond-both}
 use Rattle.matcher.specs.declared.state.State.{State}
 use Rattle.matcher.specs.State.{wholeState, keptOf}
 use Rattle.matcher.specs.declared.Answer.{Answer}
-use Rattle.matcher.specs.Match.{answerOf, refusedWith, tooShort, matchNumber, callAnswer}
+use Rattle.matcher.specs.Match.{stepAnswer, refusedWith, tooShort, matchNumber, callAnswer}
 use Rattle.matcher.proofs.StateLaws.{state-facts}
 use Rattle.capi.specs.State.{stateLength, store, load}
 use Rattle.capi.specs.Match.{stored, keeps, leftBy, matchedOn, stateLeft}
@@ -89,9 +89,9 @@ module _ (t : Table) (keys : List ℕ) (limit : ℕ) where
       (λ _. order-not (not (eqb (length keys) 496)) false (isBadRecord (c .bytes) (c .order)) (passesContext t keys limit k (recordRead (c .bytes) (c .order))))
 
 whole-not : (table keys : List ℕ) (limit : ℕ) (s : State) (c : MatchCall) → wholeState s ≡ true → Not14 (callAnswer table keys limit s c .matched)
-unfolding callAnswer answerOf matchNumber
+unfolding callAnswer stepAnswer matchNumber
 whole-not table keys limit s c w =
-    cond-both (λ (a : Answer). Not14 (a .matched)) (eqb (matchNumber table keys limit s c) 0) (answerOf (stepped (decode table) keys limit (keptOf s) c)) (refusedWith (matchNumber table keys limit s c) s)
+    cond-both (λ (a : Answer). Not14 (a .matched)) (eqb (matchNumber table keys limit s c) 0) (stepAnswer (stepped (decode table) keys limit (keptOf s) c)) (refusedWith (matchNumber table keys limit s c) s)
     (λ _. step-not (decode table) keys limit (keptOf s) c)
     (λ _ z. order-not (tooShort table keys) (not (whole table)) (isBadRecord (c .bytes) (c .order)) (passesContext (decode table) keys limit (keptOf s) (recordRead (c .bytes) (c .order))) (rw w at z))
 

@@ -25,15 +25,15 @@ use Rattle.tables.specs.Reading.{decode}
 use Rattle.tables.proofs.Positions.{cond-both}
 use Rattle.matcher.specs.declared.state.State.{State}
 use Rattle.matcher.specs.declared.Answer.{Answer}
-use Rattle.matcher.specs.State.{wholeState, freshState, keptOf, stateOf}
-use Rattle.matcher.specs.Match.{answerOf, refusedWith, matchNumber, callAnswer}
+use Rattle.matcher.specs.State.{wholeState, freshState, keptOf, stateKeeping}
+use Rattle.matcher.specs.Match.{stepAnswer, refusedWith, matchNumber, callAnswer}
 use Rattle.matcher.proofs.StateLaws.{state-facts, state-kept, fresh-whole}
 use Rattle.matcher.proofs.NextLaws.{step-whole}
 use Rattle.claims.specs.Matching.{matcherOn}
 use Rattle.claims.proofs.Matching.{demand3-on-bytes}
 use Rattle.capi.specs.State.{store, load}
 use Rattle.capi.specs.Match.{stored, freshBytes, matchedWord, keeps, leftBy, matchedOn, stateLeft}
-use Rattle.capi.specs.Demand.{numberIn, selectionIn, matcherOnStates, wordsFrom, OnStates, Demand3OnStates}
+use Rattle.capi.specs.Demand.{wordNumber, wordSelection, matcherOnStates, wordsFrom, OnStates, Demand3OnStates}
 use Rattle.capi.proofs.StateLaws.{state-back, length-store}
 
 -- ---- The state that a call gives
@@ -44,10 +44,10 @@ module _ (table keys : List ℕ) (limit : ℕ) (s : State) (w : wholeState s ≡
 
   -- it is whole
   next-whole : wholeState (answer .state) ≡ true
-  unfolding callAnswer answerOf
+  unfolding callAnswer stepAnswer
   next-whole =
       cond-both (λ (a : Answer). wholeState (a .state) ≡ true) (eqb (matchNumber table keys limit s c) 0)
-      (answerOf (stepped (decode table) keys limit (keptOf s) c)) (refusedWith (matchNumber table keys limit s c) s)
+      (stepAnswer (stepped (decode table) keys limit (keptOf s) c)) (refusedWith (matchNumber table keys limit s c) s)
       (λ _. step-whole (decode table) keys limit s c w) (λ _. w)
 
   -- where a call is refused or its event dropped, it is the state that was given
@@ -71,11 +71,11 @@ module _ (table keys : List ℕ) (limit : ℕ) (s : State) (w : wholeState s ≡
       (λ _. act-same t k (recordRead (c .bytes) (c .order))) (λ _ _. refl)
 
   next-same : keeps (answer .matched) ≡ true → answer .state ≡ s
-  unfolding callAnswer answerOf
+  unfolding callAnswer stepAnswer
   next-same =
       cond-both (λ (a : Answer). keeps (a .matched) ≡ true → a .state ≡ s) (eqb (matchNumber table keys limit s c) 0)
-      (answerOf (stepped (decode table) keys limit (keptOf s) c)) (refusedWith (matchNumber table keys limit s c) s)
-      (λ _ e. ap stateOf (step-same (decode table) (keptOf s) e) ∙ state-kept s (state-facts s w)) (λ _ _. refl)
+      (stepAnswer (stepped (decode table) keys limit (keptOf s) c)) (refusedWith (matchNumber table keys limit s c) s)
+      (λ _ e. ap stateKeeping (step-same (decode table) (keptOf s) e) ∙ state-kept s (state-facts s w)) (λ _ _. refl)
 
 -- ---- Lent bytes that hold a whole state
 
@@ -172,8 +172,8 @@ views table keyboard limit lent h =
 
 -- the number and the selection can be told from the number that is returned
 pub record Told (a : Matched) : Type 0 where
-  pub number : numberIn (matchedWord a) ≡ matchedNumber a
-  pub selection : selectionIn (matchedWord a) ≡ matchedSelection a
+  pub number : wordNumber (matchedWord a) ≡ matchedNumber a
+  pub selection : wordSelection (matchedWord a) ≡ matchedSelection a
 
 told-refused : (n : ℕ) → n < 256 → Told (Matched.Refused n)
 unfolding matchedWord
@@ -223,12 +223,12 @@ module _ (t : Table) (keys : List ℕ) (limit : ℕ) where
       (λ _. told-heard-list (before ++ (c ∷ [])) (heard t keys limit c))
       (λ _. told-refused (callNumber t keys limit c) (order-small (not (eqb (length keys) 496)) false false (isBadRecord (c .bytes) (c .order)) false))
 
-  numbers-told : (before cs : List MatchCall) → map numberIn (map matchedWord (namedFrom t keys limit before cs)) ≡ map matchedNumber (namedFrom t keys limit before cs)
+  numbers-told : (before cs : List MatchCall) → map wordNumber (map matchedWord (namedFrom t keys limit before cs)) ≡ map matchedNumber (namedFrom t keys limit before cs)
   unfolding namedFrom
   numbers-told before [] = refl
   numbers-told before (c ∷ cs) = ap₂ _∷_ (told-named before c .number) (numbers-told (before ++ (c ∷ [])) cs)
 
-  selections-told : (before cs : List MatchCall) → map selectionIn (map matchedWord (namedFrom t keys limit before cs)) ≡ map matchedSelection (namedFrom t keys limit before cs)
+  selections-told : (before cs : List MatchCall) → map wordSelection (map matchedWord (namedFrom t keys limit before cs)) ≡ map matchedSelection (namedFrom t keys limit before cs)
   unfolding namedFrom
   selections-told before [] = refl
   selections-told before (c ∷ cs) = ap₂ _∷_ (told-named before c .selection) (selections-told (before ++ (c ∷ [])) cs)
@@ -252,8 +252,8 @@ module _ (table keyboard : List ℕ) (limit : ℕ) (lent : List ℕ) (t : Table)
   on-states d =
       record {
         demand = d;
-        numbers = ap (map numberIn) (words-named d) ∙ numbers-told t (mapNumbers keyboard) limit [] cs;
-        selections = ap (map selectionIn) (words-named d) ∙ selections-told t (mapNumbers keyboard) limit [] cs;
+        numbers = ap (map wordNumber) (words-named d) ∙ numbers-told t (mapNumbers keyboard) limit [] cs;
+        selections = ap (map wordSelection) (words-named d) ∙ selections-told t (mapNumbers keyboard) limit [] cs;
       }
 
 pub demand3-on-states : Demand3OnStates

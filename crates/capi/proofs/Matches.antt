@@ -19,7 +19,7 @@ use Rattle.model.specs.declared.events.Event.{Event}
 use Rattle.model.specs.declared.answers.RecordRead.{RecordRead}
 use Rattle.model.specs.declared.answers.Matched.{Matched}
 use Rattle.machine.specs.Kept.{Kept, Step, moved, chosenIn, choice, passesContext, stepNumber, refuse, dropEvent, hear, act, stepped}
-use Rattle.tables.specs.Reading.{decode, productionAt, productionCount}
+use Rattle.tables.specs.Reading.{decode, productionEntry, productionTotal}
 use Rattle.tables.specs.Whole.{whole}
 use Rattle.tables.proofs.Positions.{cond-both}
 use Rattle.tables.proofs.WholeFacts.{facts-of-whole}
@@ -27,7 +27,7 @@ use Rattle.matcher.specs.declared.state.State.{State}
 use Rattle.matcher.specs.declared.Answer.{Answer}
 use Rattle.matcher.specs.State.{keptOf, wholeState}
 use Rattle.keyboard.specs.Maps.{mapNumbers}
-use Rattle.matcher.specs.Match.{matchAnswer, answerOf, refusedWith, tooShort, matchNumber, callAnswer}
+use Rattle.matcher.specs.Match.{matchAnswer, stepAnswer, refusedWith, tooShort, matchNumber, callAnswer}
 use Rattle.capi.specs.State.{load}
 use Rattle.capi.specs.Match.{stored, freshNumber, freshBytes, selectionMark, matchedWord, leftBy, answerOn, matchedOn, stateLeft}
 use Rattle.capi.proofs.Bounds.{Below, earliest-below}
@@ -150,12 +150,12 @@ table-passes false false c d e q = refl
 
 few-productions : (table : List ℕ) → whole table ≡ true → length (decode table .productions) ≤ 64
 unfolding decode
-few-productions table w = rw (length-run (productionAt table) 0 (productionCount table)) (facts-of-whole table w .productions)
+few-productions table w = rw (length-run (productionEntry table) 0 (productionTotal table)) (facts-of-whole table w .productions)
 
 answer-few : (table map : List ℕ) (limit : ℕ) (s : State) (c : MatchCall) → markOf (callAnswer table map limit s c .matched) ≤ 64
-unfolding callAnswer answerOf matchNumber
+unfolding callAnswer stepAnswer matchNumber
 answer-few table map limit s c =
-    cond-both (λ (a : Answer). markOf (a .matched) ≤ 64) (eqb (matchNumber table map limit s c) 0) (answerOf (stepped (decode table) map limit (keptOf s) c)) (refusedWith (matchNumber table map limit s c) s)
+    cond-both (λ (a : Answer). markOf (a .matched) ≤ 64) (eqb (matchNumber table map limit s c) 0) (stepAnswer (stepped (decode table) map limit (keptOf s) c)) (refusedWith (matchNumber table map limit s c) s)
     (λ e.
     let w : whole table ≡ true = not-false (whole table)
     (table-passes (tooShort table map) (not (whole table)) (not (wholeState s)) (isBadRecord (c .bytes) (c .order))

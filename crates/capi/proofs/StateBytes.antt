@@ -10,7 +10,7 @@ use lib.Dec.{eqb}
 use lib.ListN.{length, getD, set, take, drop, length-drop}
 use lib.Seq.{paste, paste-zero, paste-suc, length-paste, getD-drop, take-at, drop-append-add, drop-drop}
 use mir.Val.{boolByte}
-use Rattle.words.specs.Words.{bytesOf, wordAt, putWord, zeros}
+use Rattle.words.specs.Words.{wordBytes, wordAt, putWord, zeros}
 use Rattle.words.proofs.Images.{length-bytes}
 use Rattle.words.proofs.Laws.{length-zeros}
 use Rattle.matcher.specs.declared.state.State.{State}
@@ -68,8 +68,8 @@ open-word false = refl
 
 -- four words
 pub put-four : (l : List ℕ) (a b c d : ℕ) → 8 ≤ length l
-    → putWord (putWord (putWord (putWord l 0 a) 1 b) 2 c) 3 d ≡ bytesOf (a ∷ b ∷ c ∷ d ∷ []) ++ drop 8 l
-unfolding putWord bytesOf
+    → putWord (putWord (putWord (putWord l 0 a) 1 b) 2 c) 3 d ≡ wordBytes (a ∷ b ∷ c ∷ d ∷ []) ++ drop 8 l
+unfolding putWord wordBytes
 put-four [] a b c d h = absurd (omega arith)
 put-four (x0 ∷ []) a b c d h = absurd (omega arith)
 put-four (x0 ∷ x1 ∷ []) a b c d h = absurd (omega arith)
@@ -80,21 +80,21 @@ put-four (x0 ∷ x1 ∷ x2 ∷ x3 ∷ x4 ∷ x5 ∷ []) a b c d h = absurd (omeg
 put-four (x0 ∷ x1 ∷ x2 ∷ x3 ∷ x4 ∷ x5 ∷ x6 ∷ []) a b c d h = absurd (omega arith)
 put-four (x0 ∷ x1 ∷ x2 ∷ x3 ∷ x4 ∷ x5 ∷ x6 ∷ x7 ∷ xs) a b c d h = refl
 
-pub length-marks : (ws : List ℕ) → length ws ≡ 4 → length (bytesOf ws) ≡ 8
+pub length-marks : (ws : List ℕ) → length ws ≡ 4 → length (wordBytes ws) ≡ 8
 length-marks ws e = omega (arith, length-bytes ws)
 
 -- what stands past the marks
-drop-marks : (ws rest : List ℕ) (n : ℕ) → length ws ≡ 4 → drop (8 + n) (bytesOf ws ++ rest) ≡ drop n rest
+drop-marks : (ws rest : List ℕ) (n : ℕ) → length ws ≡ 4 → drop (8 + n) (wordBytes ws ++ rest) ≡ drop n rest
 drop-marks ws rest n e =
-    ap (λ (k : ℕ). drop (k + n) (bytesOf ws ++ rest)) (sym (length-marks ws e)) ∙ drop-append-add (bytesOf ws) rest n
+    ap (λ (k : ℕ). drop (k + n) (wordBytes ws ++ rest)) (sym (length-marks ws e)) ∙ drop-append-add (wordBytes ws) rest n
 
-stored-over : (s : State) (l : List ℕ) → paste (bytesOf (marksOf s) ++ drop 8 l) 8 (s .events) 192 ≡ store s ++ drop 200 l
+stored-over : (s : State) (l : List ℕ) → paste (wordBytes (marksOf s) ++ drop 8 l) 8 (s .events) 192 ≡ store s ++ drop 200 l
 unfolding store
 stored-over s l =
     ap₂ (λ (a b : List ℕ). a ++ take 192 (s .events) ++ b)
-    (take-at (bytesOf (marksOf s)) (drop 8 l) 8 (length-marks (marksOf s) refl))
+    (take-at (wordBytes (marksOf s)) (drop 8 l) 8 (length-marks (marksOf s) refl))
     (drop-marks (marksOf s) (drop 8 l) 192 refl ∙ drop-drop 192 8 l)
 
-pub state-stored : (s : State) (l marked out : List ℕ) → marked ≡ bytesOf (marksOf s) ++ drop 8 l → out ≡ paste marked 8 (s .events) 192
+pub state-stored : (s : State) (l marked out : List ℕ) → marked ≡ wordBytes (marksOf s) ++ drop 8 l → out ≡ paste marked 8 (s .events) 192
     → out ≡ store s ++ drop 200 l
 state-stored s l marked out e f = f ∙ ap (λ (m : List ℕ). paste m 8 (s .events) 192) e ∙ stored-over s l

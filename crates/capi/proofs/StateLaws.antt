@@ -8,7 +8,7 @@ use mathlib.Core.List.{List, [], _∷_, _++_, append-assoc}
 use lib.Dec.{eqb, leb}
 use lib.ListN.{length, getD, take, drop, length-append, length-drop, take-append-drop}
 use lib.Seq.{length-take-le, take-at, drop-at, take-add, getD-drop, ext-getD}
-use Rattle.words.specs.Words.{bytesOf, wordAt, zeros}
+use Rattle.words.specs.Words.{wordBytes, wordAt, zeros}
 use Rattle.words.specs.Runs.{run}
 use Rattle.words.proofs.Bools.{and-left, and-right}
 use Rattle.words.proofs.Laws.{length-zeros, getD-zeros}
@@ -54,7 +54,7 @@ module _ (s : State) (f : StateFacts s) where
     after = take 192 (s .events) ++ rest
 
     abbrev bytes : List ℕ
-    bytes = bytesOf (marksOf s) ++ after
+    bytes = wordBytes (marksOf s) ++ after
 
     word : (k : ℕ) → k < 4 → getD (marksOf s) k 0 < 65536 → wordAt bytes k ≡ getD (marksOf s) k 0
     word k h b = word-image (marksOf s) after k h b
@@ -78,7 +78,7 @@ module _ (s : State) (f : StateFacts s) where
     events-back : loadEvents bytes ≡ s .events
     unfolding loadEvents
     events-back =
-        ap (λ (l : List ℕ). take 192 l ++ zeros 8) (drop-at (bytesOf (marksOf s)) after 8 (length-marks (marksOf s) refl))
+        ap (λ (l : List ℕ). take 192 l ++ zeros 8) (drop-at (wordBytes (marksOf s)) after 8 (length-marks (marksOf s) refl))
         ∙ ap₂ (λ (a b : List ℕ). a ++ b) (take-at (take 192 (s .events)) rest 192 length-events) (sym last-slot)
         ∙ take-append-drop 192 (s .events)
 
@@ -93,11 +93,11 @@ module _ (s : State) (f : StateFacts s) where
 
     pub state-back : load (store s ++ rest) ≡ s
     unfolding store
-    state-back = ap load (append-assoc (bytesOf (marksOf s)) (take 192 (s .events)) rest) ∙ bytes-back
+    state-back = ap load (append-assoc (wordBytes (marksOf s)) (take 192 (s .events)) rest) ∙ bytes-back
 
   pub length-store : length (store s) ≡ 200
   unfolding store
-  length-store = omega (arith, length-append (bytesOf (marksOf s)) (take 192 (s .events)), length-marks (marksOf s) refl, length-events)
+  length-store = omega (arith, length-append (wordBytes (marksOf s)) (take 192 (s .events)), length-marks (marksOf s) refl, length-events)
 
 -- ---- Load, then store
 
@@ -132,7 +132,7 @@ module _ (l : List ℕ) (w : wholeState (load l) ≡ true) where
   pub store-load : ((i : ℕ) → getD l i 0 < 256) → 200 ≤ length l → l ≡ store (load l) ++ drop 200 l
   unfolding store load loadEvents
   store-load b h =
-      let e : take 8 l ≡ bytesOf (marksOf (load l)) = bytes-run l 0 4 b (omega arith) ∙ ap bytesOf (sym marks-words) in
+      let e : take 8 l ≡ wordBytes (marksOf (load l)) = bytes-run l 0 4 b (omega arith) ∙ ap wordBytes (sym marks-words) in
       let k : 192 ≤ length (drop 8 l) = omega (arith, length-drop 8 l) in
       let g = sym (take-at (take 192 (drop 8 l)) (zeros 8) 192 (length-take-le 192 (drop 8 l) k)) in
       sym (take-append-drop 200 l) ∙ ap (λ (x : List ℕ). x ++ drop 200 l) (take-add 8 192 l ∙ ap₂ (λ (x y : List ℕ). x ++ y) e g)
@@ -140,7 +140,7 @@ module _ (l : List ℕ) (w : wholeState (load l) ≡ true) where
 -- ---- The fresh state
 
 pub fresh-bytes : store freshState ≡ zeros 200
-unfolding store bytesOf stateWith inSlots slots.bytesOf zeros
+unfolding store wordBytes stateWith inSlots slots.eventsBytes zeros
 fresh-bytes = refl
 
 pub state-laws : StateLaws

@@ -19,11 +19,11 @@ use Rattle.capi.specs.Match.{freshBytes, matchedWord, matchedOn, stateLe
 -- ---- What a call returns
 
 -- document 01's number, and the production that is selected
-abbrev pub numberIn : ℕ → ℕ
-numberIn word = word % 256
+abbrev pub wordNumber : ℕ → ℕ
+wordNumber word = word % 256
 
-abbrev pub selectionIn : ℕ → Option ℕ
-selectionIn word = cond (eqb (word / 256) 0) none (some (word / 256 - 1))
+abbrev pub wordSelection : ℕ → Option ℕ
+wordSelection word = cond (eqb (word / 256) 0) none (some (word / 256 - 1))
 
 -- ---- Calls of `tt_match` on one table, map and multi-click time, from what `tt_fresh` leaves in lent bytes
 
@@ -49,10 +49,10 @@ pub record OnStates (table keyboard : List ℕ) (limit : ℕ) (lent : List ℕ) 
   pub demand : Demand3 (matcherOnStates table keyboard limit lent) t (mapNumbers keyboard) limit cs
   -- and the numbers that are returned tell the number and the selection that the rules name, at every call
   pub numbers :
-      map numberIn (wordsFrom table keyboard limit (freshBytes lent) cs)
+      map wordNumber (wordsFrom table keyboard limit (freshBytes lent) cs)
       ≡ map matchedNumber (namedFrom t (mapNumbers keyboard) limit [] cs)
   pub selections :
-      map selectionIn (wordsFrom table keyboard limit (freshBytes lent) cs)
+      map wordSelection (wordsFrom table keyboard limit (freshBytes lent) cs)
       ≡ map matchedSelection (namedFrom t (mapNumbers keyboard) limit [] cs)
 
 -- for every accepted table, lent as its bytes with any bytes after them, any bytes as the map, one multi-click time, any lent

@@ -4,8 +4,8 @@ use Prim.Native.Nat.{ℕ}
 use mathlib.Core.Bool.{Bool, cond, _&&_}
 use mathlib.Core.List.{List, [], _∷_, _++_}
 use lib.Dec.{eqb, leb}
-use lib.ListN.{length, take, drop}
-use Rattle.words.specs.Words.{bytesOf, wordAt, zeros}
+use lib.ListN.{take, drop}
+use Rattle.words.specs.Words.{wordBytes, wordAt, zeros}
 use Rattle.matcher.specs.declared.state.State.{State}
 
 -- how many bytes a state has
@@ -26,7 +26,7 @@ abbrev pub marksOf : State → List ℕ
 marksOf s = s .kept ∷ s .selected ∷ cond (s .«open») 1 0 ∷ 0 ∷ []
 
 unfoldable pub store : State → List ℕ
-store s = bytesOf (marksOf s) ++ take eventLength (s .events)
+store s = wordBytes (marksOf s) ++ take eventLength (s .events)
 
 -- ---- From bytes to a state
 

@@ -6,7 +6,7 @@ ghost use mathlib.Core.List.{[], _∷_, _++_};
 ghost use mathlib.Core.Bool.{cond};
 ghost use Prim.Native.Nat.{_+_, _*_, _≤_};
 ghost use lib.ListN.{length, take, drop};
-ghost use Rattle.words.specs.Words.{bytesOf, putWord};
+ghost use Rattle.words.specs.Words.{wordBytes, putWord};
 ghost use Rattle.capi.specs.Match.{leftBy};
 ghost use Rattle.capi.specs.State.{marksRead, loadEvents, load, store};
 
@@ -69,7 +69,7 @@ fn put_mark(out: &mut [u8], k: usize, n: usize)
 
 fn store_marks(out: &mut [u8], kept: usize, selected: usize, open: bool)
     requires { ⌜ 200 ≤ length (now out) ⌝ }
-    ensures { λ r. ⌜ now (out .exit) ≡ bytesOf (kept ∷ selected ∷ cond «open» 1 0 ∷ 0 ∷ []) ++ drop 8 (now (out .entry)) ⌝ }
+    ensures { λ r. ⌜ now (out .exit) ≡ wordBytes (kept ∷ selected ∷ cond «open» 1 0 ∷ 0 ∷ []) ++ drop 8 (now (out .entry)) ⌝ }
 {
     put_mark(out, 0, kept);
     put_mark(out, 1, selected);

@@ -19,5 +19,5 @@ unfoldable pub within : List ℕ → ℕ → ℕ
 within l place = cond (ltb place (length l)) place (length l)
 
 -- the number of the line that the byte at a place stands in, from 1 on
-unfoldable pub lineOf : List ℕ → ℕ → ℕ
-lineOf l place = newlines l (within l place) + 1
+unfoldable pub lineNumber : List ℕ → ℕ → ℕ
+lineNumber l place = newlines l (within l place) + 1

@@ -62,7 +62,7 @@ fn put_first(bytes: &[u8], n: usize) {
 }
 
 fn check(text: &[u8]) {
-    let mut table = [0u8; 5904];
+    let mut table = [0u8; tables::TABLE_LENGTH];
     match compiler::compile(text, &mut table) {
         Compiled::Accepted => put_canonical(&table, text),
         Compiled::Refused { number, place } => put_refusal(text, number, place),

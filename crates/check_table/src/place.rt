@@ -2,7 +2,7 @@
 ghost use mathlib.Core.Path.{_≡_};
 ghost use Prim.Native.Nat.{_≤_};
 ghost use lib.ListN.{length};
-ghost use Rattle.check_table.specs.Places.{newline, newlines, within, lineOf};
+ghost use Rattle.check_table.specs.Places.{newline, newlines, within, lineNumber};
 
 // A place, or the end of the text where that comes first.
 fn up_to(text: &[u8], place: usize) -> usize
@@ -37,7 +37,7 @@ fn count_newlines(text: &[u8], n: usize) -> usize
 
 // The number of the line that the byte at a place stands in. A text is a slice, so it is not as long as the numbers go.
 pub fn line_at(text: &[u8], place: usize) -> u64
-    ensures { λ r. ⌜ r ≡ lineOf (now (text .entry)) place ⌝ }
+    ensures { λ r. ⌜ r ≡ lineNumber (now (text .entry)) place ⌝ }
 {
     let n = up_to(text, place);
     let before = count_newlines(text, n);

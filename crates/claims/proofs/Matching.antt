@@ -22,8 +22,8 @@ use Rattle.tables.proofs.Theorems.{decode-encode, length-encode, whole-encode}
 use Rattle.tables.proofs.AcceptedFits.{accepted-fits}
 use Rattle.matcher.specs.declared.state.State.{State}
 use Rattle.matcher.specs.declared.Answer.{Answer}
-use Rattle.matcher.specs.State.{keptOf, stateOf, wholeState}
-use Rattle.matcher.specs.Match.{answerOf, refusedWith, tooShort, matchNumber, callAnswer}
+use Rattle.matcher.specs.State.{keptOf, stateKeeping, wholeState}
+use Rattle.matcher.specs.Match.{stepAnswer, refusedWith, tooShort, matchNumber, callAnswer}
 use Rattle.matcher.proofs.StateLaws.{state-facts, kept-bounded, kept-state, state-kept, fresh-whole, fresh-kept}
 use Rattle.matcher.proofs.NextLaws.{step-whole}
 use Rattle.claims.specs.Matching.{matcherOn, Demand3OnBytes}
@@ -54,7 +54,7 @@ module _ (t : Table) (fit : fitting t ≡ true) (after map : List ℕ) (limit : 
     same-number = rw (short-map, whole-encode t fit after, g, decode-encode t fit after)
 
     abbrev answered : Bool → Answer
-    answered b = cond b (answerOf step) (refusedWith number s)
+    answered b = cond b (stepAnswer step) (refusedWith number s)
 
     same-answer : callAnswer table map limit s c ≡ answered (eqb number 0)
     unfolding callAnswer
@@ -65,26 +65,26 @@ module _ (t : Table) (fit : fitting t ≡ true) (after map : List ℕ) (limit : 
     refused-step q = rw q
 
     answer-same : (b : Bool) → eqb number 0 ≡ b → answered b .matched ≡ step .answer
-    unfolding answerOf
+    unfolding stepAnswer
     answer-same true q = refl
     answer-same false q = sym (ap (λ (u : Step). u .answer) (refused-step q))
 
     next-same : (b : Bool) → eqb number 0 ≡ b → keptOf (answered b .state) ≡ step .next
-    unfolding answerOf
+    unfolding stepAnswer
     next-same true q =
         let b = stepped-bounded t map limit (keptOf s) (kept-bounded s (state-facts s g)) c .few in
         kept-state (step .next) (omega arith)
     next-same false q = sym (ap (λ (u : Step). u .next) (refused-step q))
 
     next-whole : (b : Bool) → wholeState (answered b .state) ≡ true
-    unfolding answerOf
+    unfolding stepAnswer
     next-whole true = step-whole t map limit s c g
     next-whole false = g
 
     next-kept : (b : Bool) → (matchedNumber (step .answer) ≡ 0 → ⊥) → answered b .state ≡ s
-    unfolding answerOf
+    unfolding stepAnswer
     next-kept true f =
-        ap stateOf (step-refuses t map limit (keptOf s) c f .1) ∙ state-kept s (state-facts s g)
+        ap stateKeeping (step-refuses t map limit (keptOf s) c f .1) ∙ state-kept s (state-facts s g)
     next-kept false f = refl
 
     answer-is : callAnswer table map limit s c .matched ≡ step .answer

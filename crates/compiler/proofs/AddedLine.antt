@@ -13,12 +13,12 @@ use Rattle.model.specs.Compiling.{passesLimit, withCalls, withEvents, lineRead,
 use Rattle.model.specs.Tables.{Call, Production}
 use Rattle.model.specs.declared.events.KeptEvent.{KeptEvent}
 use Rattle.scanner.specs.Spans.{eventsIn}
-use Rattle.scanner.specs.Sides.{parametersOf, leftOf, callsIn}
+use Rattle.scanner.specs.Sides.{parameterNumber, leftOf, callsIn}
 use Rattle.scanner.proofs.Left.{LeftIn, left-in}
-use Rattle.lines.specs.Totals.{totalsOf, lineOf}
-use Rattle.lines.specs.Line.{startOf, callsStart}
+use Rattle.lines.specs.Totals.{totalsOf, lineHeld}
+use Rattle.lines.specs.Line.{callsFound, callsStart}
 use Rattle.tables.specs.Layout as layout
-use Rattle.tables.specs.Layout.{Entries, eventsOf, callsOf, image}
+use Rattle.tables.specs.Layout.{Entries, allEvents, allCalls, image}
 use Rattle.tables.specs.Writing.{putProduction}
 use Rattle.tables.proofs.Lists.{length-flat, inAll-flat}
 use Rattle.tables.proofs.Images.{Room}
@@ -86,19 +86,19 @@ module _ (ps : List Production) (base : ℕ) (l : List ℕ) (p : Production) whe
 
 -- ---- Numbers
 
-parameters-same : (base : ℕ) (cs : List WrittenCall) → length (layout.parametersOf (map (callOf base) cs)) ≡ inAll parametersOf cs
+parameters-same : (base : ℕ) (cs : List WrittenCall) → length (layout.allParameters (map (callOf base) cs)) ≡ inAll parameterNumber cs
 parameters-same base cs = length-flat (λ (c : Call). c .parameters) (map (callOf base) cs) ∙ each cs
   where
-    each : (ds : List WrittenCall) → inAll (λ (c : Call). length (c .parameters)) (map (callOf base) ds) ≡ inAll parametersOf ds
+    each : (ds : List WrittenCall) → inAll (λ (c : Call). length (c .parameters)) (map (callOf base) ds) ≡ inAll parameterNumber ds
     each [] = refl
     each (d ∷ ds) = let n = length-map (d .parameters) _ in λ i. n i + each ds i
 
 -- totals are the numbers of entries
 pub record TotalsAre (ps : List Production) : Type 0 where
   pub productions : totalsOf ps .productions ≡ length ps
-  pub events : totalsOf ps .events ≡ length (eventsOf ps)
-  pub calls : totalsOf ps .calls ≡ length (callsOf ps)
-  pub parameters : totalsOf ps .parameters ≡ length (layout.parametersOf (callsOf ps))
+  pub events : totalsOf ps .events ≡ length (allEvents ps)
+  pub calls : totalsOf ps .calls ≡ length (allCalls ps)
+  pub parameters : totalsOf ps .parameters ≡ length (layout.allParameters (allCalls ps))
 
 pub totals-are : (ps : List Production) → TotalsAre ps
 unfolding totalsOf
@@ -108,7 +108,7 @@ totals-are ps =
       events = sym (length-flat (λ (p : Production). p .events) ps);
       calls = sym (length-flat (λ (p : Production). p .calls) ps);
       parameters =
-          sym (length-flat (λ (c : Call). c .parameters) (callsOf ps)
+          sym (length-flat (λ (c : Call). c .parameters) (allCalls ps)
           ∙ inAll-flat (λ (c : Call). length (c .parameters)) (λ (p : Production). p .calls) ps);
     }
 
@@ -128,27 +128,27 @@ module _ (ps : List Production) (base : ℕ) (l : List ℕ) (p : Production) (g 
   -- how many entries there are with the line's
   record Sums : Type 0 where
     productions : length ps < 64
-    events : length (eventsOf ps) + length (g .es) ≤ 256
-    calls : length (callsOf ps) + length (g .cs) ≤ 128
-    parameters : length (layout.parametersOf (callsOf ps)) + inAll parametersOf (g .cs) ≤ 256
+    events : length (allEvents ps) + length (g .es) ≤ 256
+    calls : length (allCalls ps) + length (g .cs) ≤ 128
+    parameters : length (layout.allParameters (allCalls ps)) + inAll parameterNumber (g .cs) ≤ 256
     kept : length (p .events) ≡ length (g .es)
     called : length (p .calls) ≡ length (g .cs)
-    given : length (layout.parametersOf (p .calls)) ≡ inAll parametersOf (g .cs)
+    given : length (layout.allParameters (p .calls)) ≡ inAll parameterNumber (g .cs)
 
   sums : Sums
   sums =
       let x = so-far-more ps p in
       let f = so-far-room (ps ++ (p ∷ [])) (g .passes) in
-      let es : length (eventsOf (ps ++ (p ∷ []))) ≡ length (eventsOf ps) + length (p .events) =
-      sym (ap (λ (e : Entries). length (e .events)) x) ∙ length-append (eventsOf ps) (p .events) in
-      let cs : length (callsOf (ps ++ (p ∷ []))) ≡ length (callsOf ps) + length (p .calls) =
-      sym (ap (λ (e : Entries). length (e .calls)) x) ∙ length-append (callsOf ps) (p .calls) in
-      let rs : length (layout.parametersOf (callsOf (ps ++ (p ∷ [])))) ≡ length (layout.parametersOf (callsOf ps)) + length (layout.parametersOf (p .calls)) =
-      sym (ap (λ (e : Entries). length (e .parameters)) x) ∙ length-append (layout.parametersOf (callsOf ps)) (layout.parametersOf (p .calls)) in
+      let es : length (allEvents (ps ++ (p ∷ []))) ≡ length (allEvents ps) + length (p .events) =
+      sym (ap (λ (e : Entries). length (e .events)) x) ∙ length-append (allEvents ps) (p .events) in
+      let cs : length (allCalls (ps ++ (p ∷ []))) ≡ length (allCalls ps) + length (p .calls) =
+      sym (ap (λ (e : Entries). length (e .calls)) x) ∙ length-append (allCalls ps) (p .calls) in
+      let rs : length (layout.allParameters (allCalls (ps ++ (p ∷ [])))) ≡ length (layout.allParameters (allCalls ps)) + length (layout.allParameters (p .calls)) =
+      sym (ap (λ (e : Entries). length (e .parameters)) x) ∙ length-append (layout.allParameters (allCalls ps)) (layout.allParameters (p .calls)) in
       let k : length (p .events) ≡ length (g .es) = ap (λ (q : Production). length (q .events)) (g .is) ∙ kept-length (g .es) (g .ks) (g .kept) in
       let d : length (p .calls) ≡ length (g .cs) = ap (λ (q : Production). length (q .calls)) (g .is) ∙ length-map (g .cs) (callOf base) in
-      let r : length (layout.parametersOf (p .calls)) ≡ inAll parametersOf (g .cs) =
-      ap (λ (q : Production). length (layout.parametersOf (q .calls))) (g .is) ∙ parameters-same base (g .cs) in
+      let r : length (layout.allParameters (p .calls)) ≡ inAll parameterNumber (g .cs) =
+      ap (λ (q : Production). length (layout.allParameters (q .calls))) (g .is) ∙ parameters-same base (g .cs) in
       record {
         productions = omega (arith, limit-facts (ps ++ (p ∷ [])) (g .passes) .productions, length-append ps (p ∷ []));
         events = omega (arith, f .events);
@@ -161,20 +161,20 @@ module _ (ps : List Production) (base : ℕ) (l : List ℕ) (p : Production) (g 
 
   start : callsStart l ≡ g .next
   unfolding callsStart
-  start = ap startOf (g .left)
+  start = ap callsFound (g .left)
 
   right-in : g .next ≤ length l
   right-in = subst (LeftIn (length l) 0) (ap leftOf (g .left)) (left-in l) .1
 
   -- ---- The line fits
 
-  pub line-fits : LineFits l (totalsOf ps) (lineOf (callsStart l) p)
-  unfolding lineOf
+  pub line-fits : LineFits l (totalsOf ps) (lineHeld (callsStart l) p)
+  unfolding lineHeld
   line-fits =
       let n = totals-are ps in
       let s = sums in
       let e : totalsOf ps .events + length (g .es) ≤ 256 = omega (arith, n .events, s .events) in
-      let c : (totalsOf ps .calls + length (g .cs) ≤ 128) × (totalsOf ps .parameters + inAll parametersOf (g .cs) ≤ 256) =
+      let c : (totalsOf ps .calls + length (g .cs) ≤ 128) × (totalsOf ps .parameters + inAll parameterNumber (g .cs) ≤ 256) =
       (omega (arith, n .calls, s .calls), omega (arith, n .parameters, s .parameters)) in
       record {
         events = subst (λ (r : EventsRead). EventsFit r (totalsOf ps .events)) (sym (g .left)) e;
@@ -195,7 +195,7 @@ module _ (ps : List Production) (base : ℕ) (l : List ℕ) (p : Production) (g 
         header = r .header;
         productionEvents = r .productionEvents;
         productionCalls = r .productionCalls;
-        events = omega (arith, length-append (eventsOf ps) (p .events), s .kept, s .events);
+        events = omega (arith, length-append (allEvents ps) (p .events), s .kept, s .events);
         calls = r .calls;
         parameters = r .parameters;
       }
@@ -209,8 +209,8 @@ module _ (ps : List Production) (base : ℕ) (l : List ℕ) (p : Production) (g 
         productionEvents = r .productionEvents;
         productionCalls = r .productionCalls;
         events = r .events;
-        calls = omega (arith, length-append (callsOf ps) (p .calls), s .called, s .calls);
-        parameters = omega (arith, length-append (layout.parametersOf (callsOf ps)) (layout.parametersOf (p .calls)), s .given, s .parameters);
+        calls = omega (arith, length-append (allCalls ps) (p .calls), s .called, s .calls);
+        parameters = omega (arith, length-append (layout.allParameters (allCalls ps)) (layout.allParameters (p .calls)), s .given, s .parameters);
       }
 
   module _ (rest : List ℕ) (h : passesLimit ps ≡ false) where
@@ -250,8 +250,8 @@ module _ (ps : List Production) (base : ℕ) (l : List ℕ) (p : Production) (g 
         ∙ written.put-production (moreCalls (moreEvents (soFar ps) (p .events)) (p .calls)) rest (room₂ h) (length (p .events)) (length (p .calls)) (b ∙ sym a) (omega (arith, s .productions))
         ∙ ap (λ (y : Entries). image y ++ rest) (so-far-more ps p)
 
-    pub line-held : putLine base l (totalsOf ps) (lineOf (callsStart l) p) (held ps rest) ≡ held (ps ++ (p ∷ [])) rest
-    unfolding putLine held lineOf
+    pub line-held : putLine base l (totalsOf ps) (lineHeld (callsStart l) p) (held ps rest) ≡ held (ps ++ (p ∷ [])) rest
+    unfolding putLine held lineHeld
     line-held =
         ap
         (λ (o : List ℕ).

@@ -11,7 +11,7 @@ use Rattle.model.specs.Tables.{Call, Production}
 use Rattle.model.specs.declared.scan.Span.{Span}
 use Rattle.model.specs.declared.events.KeptEvent.{KeptEvent}
 use Rattle.model.specs.declared.answers.Judged.{Judged}
-use Rattle.tables.specs.Layout.{Entries, flat, callsOf, parametersOf, image}
+use Rattle.tables.specs.Layout.{Entries, flat, allCalls, allParameters, image}
 use Rattle.tables.specs.Writing.{putEvent, putCall, putParameter, withEvent, withCall, withParameter, withProduction}
 use Rattle.tables.proofs.Lists.{flat-append}
 use Rattle.tables.proofs.Images.{Room}
@@ -51,7 +51,7 @@ moreCalls x cs =
       productionCalls = x .productionCalls;
       events = x .events;
       calls = x .calls ++ cs;
-      parameters = x .parameters ++ parametersOf cs;
+      parameters = x .parameters ++ allParameters cs;
     }
 
 -- ---- Events
@@ -208,32 +208,32 @@ withBoth x cs ss =
       parameters = ss;
     }
 
-parameters-of-cons : (c : Call) (cs : List Call) → parametersOf (c ∷ cs) ≡ c .parameters ++ parametersOf cs
+parameters-of-cons : (c : Call) (cs : List Call) → allParameters (c ∷ cs) ≡ c .parameters ++ allParameters cs
 unfolding flat
 parameters-of-cons c cs = refl
 
-no-parameters : parametersOf [] ≡ []
+no-parameters : allParameters [] ≡ []
 unfolding flat
 no-parameters = refl
 
 pub put-calls : (rest : List ℕ) (cs : List Call) (x : Entries) (n p : ℕ) → Room x → n ≡ length (x .calls) → p ≡ length (x .parameters)
-    → n + length cs ≤ 128 → p + length (parametersOf cs) ≤ 256
+    → n + length cs ≤ 128 → p + length (allParameters cs) ≤ 256
     → putCalls (image x ++ rest) n p cs ≡ image (moreCalls x cs) ++ rest
 unfolding putCalls
 put-calls rest [] x n p r e q b d =
     let u : x .calls ≡ x .calls ++ [] = sym (append-nil (x .calls)) in
-    let v : x .parameters ≡ x .parameters ++ parametersOf [] =
+    let v : x .parameters ≡ x .parameters ++ allParameters [] =
     sym (ap (λ (l : List Span). x .parameters ++ l) no-parameters ∙ append-nil (x .parameters)) in
     λ i. image (withBoth x (u i) (v i)) ++ rest
 put-calls rest (c ∷ cs) x n p r e q b d =
-    let s : length (parametersOf (c ∷ cs)) ≡ length (c .parameters) + length (parametersOf cs) =
-    ap length (parameters-of-cons c cs) ∙ length-append (c .parameters) (parametersOf cs) in
+    let s : length (allParameters (c ∷ cs)) ≡ length (c .parameters) + length (allParameters cs) =
+    ap length (parameters-of-cons c cs) ∙ length-append (c .parameters) (allParameters cs) in
     let z : length (x .calls) < 128 = omega arith in
     let w : length (x .parameters) + length (c .parameters) ≤ 256 = omega arith in
     let y = moreParameters (withCall x c) (c .parameters) in
     let u : x .calls ++ (c ∷ []) ++ cs ≡ x .calls ++ (c ∷ cs) = append-assoc (x .calls) (c ∷ []) cs in
-    let v : x .parameters ++ c .parameters ++ parametersOf cs ≡ x .parameters ++ parametersOf (c ∷ cs) =
-    append-assoc (x .parameters) (c .parameters) (parametersOf cs) ∙ ap (λ (l : List Span). x .parameters ++ l) (sym (parameters-of-cons c cs)) in
+    let v : x .parameters ++ c .parameters ++ allParameters cs ≡ x .parameters ++ allParameters (c ∷ cs) =
+    append-assoc (x .parameters) (c .parameters) (allParameters cs) ∙ ap (λ (l : List Span). x .parameters ++ l) (sym (parameters-of-cons c cs)) in
     ap (λ (l : List ℕ). putCalls l (n + 1) (p + length (c .parameters)) cs) (put-whole rest c x n p r e q (omega arith) (omega arith))
     ∙ put-calls rest cs y (n + 1) (p + length (c .parameters)) (spans-room (withCall x c) (c .parameters) (call-room x c r z) w)
     (omega (arith, length-append (x .calls) (c ∷ [])))
@@ -260,7 +260,7 @@ so-far-more ps p =
     let b = sym (map-append (λ (q : Production). length (q .calls)) ps (p ∷ [])) in
     let c = sym (flat-one (λ (q : Production). q .events) ps p) in
     let d = sym (flat-one (λ (q : Production). q .calls) ps p) in
-    let e = sym (flat-append (λ (q : Call). q .parameters) (callsOf ps) (p .calls)) ∙ ap parametersOf d in
+    let e = sym (flat-append (λ (q : Call). q .parameters) (allCalls ps) (p .calls)) ∙ ap allParameters d in
     λ i. record {
       header = [];
       productionEvents = a i;

@@ -6,13 +6,13 @@ use mathlib.Core.List.{List, [], _∷_, map}
 use mathlib.Core.Bool.{false}
 use lib.ListN.{length, length-map}
 use Rattle.model.specs.Lists.{inAll}
-use Rattle.model.specs.Calls.{WrittenCall, span, Parameters, parameters, oneMore, parameterAt, parametersFrom, parametersAt, CallsRead, calls, oneMoreCall, withParameters, callsNext, callAt, callsFrom, rightSide}
+use Rattle.model.specs.Calls.{WrittenCall, span, Parameters, parameters, oneParameterMore, parameterAt, parametersFrom, parametersAt, CallsRead, calls, oneMoreCall, withParameters, callsNext, callAt, callsFrom, rightSide}
 use Rattle.model.specs.Compiling.{inText, callOf}
 use Rattle.model.specs.declared.scan.Span.{Span}
 use Rattle.model.specs.declared.scan.ParameterRead.{ParameterRead}
 use Rattle.model.specs.declared.scan.CallRead.{CallRead}
 use Rattle.scanner.specs.declared.sides.CallSpans.{CallSpans}
-use Rattle.scanner.specs.Sides.{counted, callCounted, callSpans, parametersOf, callsIn}
+use Rattle.scanner.specs.Sides.{parametersCounted, callCounted, callSpans, parameterNumber, callsIn}
 use Rattle.scanner.proofs.Ranges.{ParameterIn, parameter-in, CallIn, call-in}
 use Rattle.scanner.proofs.Right.{parameters-step, calls-step, ParametersIn, parameters-at-in}
 use Rattle.tables.specs.Writing.{putParameter, putCall}
@@ -68,7 +68,7 @@ AfterParameter l base target out k i (ParameterRead.Last start end next) =
 
 module _ (l : List ℕ) (base : ℕ) (target out : List ℕ) (k i : ℕ) (g : ParametersLeft l base target out k i) where
   parameter-more : (start end p : ℕ) (r : Parameters) → ParameterIn (length l) i (ParameterRead.More start end p)
-      → parametersFrom (pred (g .f)) l p ≡ r → oneMore (span start end) r ≡ parameters (g .ss) (g .next)
+      → parametersFrom (pred (g .f)) l p ≡ r → oneParameterMore (span start end) r ≡ parameters (g .ss) (g .next)
       → AfterParameter l base target out k i (ParameterRead.More start end p)
   parameter-more start end p Parameters.broken b e h = let z : _≡_ {A = ℕ} 0 1 = cc in absurd (omega arith)
   parameter-more start end p (parameters ss n) b e h =
@@ -154,7 +154,7 @@ pub record CallsLeft (l : List ℕ) (base : ℕ) (target out : List ℕ) (n p i 
   pub inside : i ≤ length l
   pub read : callsFrom f l i ≡ calls cs
   pub calls-room : n + length cs ≤ 128
-  pub parameters-room : p + inAll parametersOf cs ≤ 256
+  pub parameters-room : p + inAll parameterNumber cs ≤ 256
   pub bytes : target ≡ putCalls out n p (map (callOf base) cs)
 
 pub calls-start : (l : List ℕ) (base : ℕ) (out : List ℕ) (n p at : ℕ) → at ≤ length l → CallsFit (rightSide l at) n p
@@ -195,7 +195,7 @@ module _ (l : List ℕ) (base : ℕ) (target out : List ℕ) (n p i : ℕ) (g : 
         let c : WrittenCall = record { name = span start end; parameters = ss } in
         let w : g .cs ≡ c ∷ cs = cc in
         let m : length (g .cs) ≡ suc (length cs) = ap length w in
-        let v : inAll parametersOf (g .cs) ≡ length ss + inAll parametersOf cs = ap (inAll parametersOf) w in
+        let v : inAll parameterNumber (g .cs) ≡ length ss + inAll parameterNumber cs = ap (inAll parameterNumber) w in
         record {
           ordered = omega (arith, b .1);
           within = b .2;
@@ -219,7 +219,7 @@ module _ (l : List ℕ) (base : ℕ) (target out : List ℕ) (n p i : ℕ) (g : 
 
     call-parameters : (r : Parameters) → parametersAt l (end + 1) ≡ r → ParametersIn (length l) (end + 1) r
         → withParameters (span start end) r (λ q. callsFrom (pred (g .f)) l q) ≡ calls (g .cs)
-        → AfterCall l base target out n p i (callCounted start end (counted r))
+        → AfterCall l base target out n p i (callCounted start end (parametersCounted r))
     call-parameters Parameters.broken q d h = let z : _≡_ {A = ℕ} 0 1 = cc in absurd (omega arith)
     call-parameters (parameters ss next) q d h = call-more ss next (callsFrom (pred (g .f)) l next) q d refl h
 

@@ -14,7 +14,7 @@ use Rattle.scanner.proofs.Walks.{Stands, spans-stand, keyed-good}
 use Rattle.judge.specs.Spans.{writtenIn, SpansIn}
 use Rattle.judge.proofs.SpanRanges.{spans-within}
 use Rattle.compiler.specs.Puts.{putJudged, putWritten}
-use Rattle.compiler.specs.Reads.{EventsFit, walked}
+use Rattle.compiler.specs.Reads.{EventsFit, walkOver}
 
 put-one : (out : List ℕ) (k : ℕ) (l : List ℕ) (s : EventSpans)
     → putWritten out k (event (writtenIn l s) ∷ []) ≡ putJudged out k (judgedWritten (writtenIn l s))
@@ -24,14 +24,14 @@ put-one out k l s = refl
 pub record PlainHere (l out : List ℕ) (at k : ℕ) (s : EventSpans) : Type 0 where
   pub spans : SpansIn (length l) s
   pub room : k < 256
-  pub walk : walked (eventsAt l at) k ≡ record { at = s .detail .end; events = k + 1 }
+  pub walk : walkOver (eventsAt l at) k ≡ record { at = s .detail .end; events = k + 1 }
   pub bytes : putWritten out k (eventsIn (eventsAt l at)) ≡ putJudged out k (judgedWritten (writtenIn l s))
 
 pub record KeysHere (l out : List ℕ) (at k start count next : ℕ) : Type 0 where
   pub inside : start ≤ length l
   pub fits : EventsFit (keysFrom (length l + 1) l start) k
   pub room : k + count ≤ 256
-  pub walk : walked (eventsAt l at) k ≡ record { at = next; events = k + count }
+  pub walk : walkOver (eventsAt l at) k ≡ record { at = next; events = k + count }
   pub bytes : putWritten out k (eventsIn (eventsAt l at)) ≡ putWritten out k (eventsIn (keysFrom (length l + 1) l start))
 
 abbrev pub ReadHere : List ℕ → List ℕ → ℕ → ℕ → EventRead → Type 0
@@ -47,7 +47,7 @@ module _ (l out : List ℕ) (at k : ℕ) (fit : EventsFit (eventsAt l at) k) whe
       record {
         spans = spans-within (length l) at s b;
         room = omega arith;
-        walk = ap (λ (x : EventsRead). walked x k) (sym e);
+        walk = ap (λ (x : EventsRead). walkOver x k) (sym e);
         bytes = ap (λ (x : EventsRead). putWritten out k (eventsIn x)) (sym e) ∙ put-one out k l s;
       }
   read-here (EventRead.Keys start count next) e b w =
@@ -59,7 +59,7 @@ module _ (l out : List ℕ) (at k : ℕ) (fit : EventsFit (eventsAt l at) k) whe
         inside = omega (arith, b .1, b .2);
         fits = subst (λ (x : EventsRead). EventsFit x k) (sym (g .0)) h;
         room = omega arith;
-        walk = ap (λ (x : EventsRead). walked x k) (sym e) ∙ (λ i. record { at = next; events = k + n i });
+        walk = ap (λ (x : EventsRead). walkOver x k) (sym e) ∙ (λ i. record { at = next; events = k + n i });
         bytes = ap (λ (x : EventsRead). putWritten out k (eventsIn x)) (sym e);
       }
 

@@ -15,7 +15,7 @@ use Rattle.scanner.proofs.EventRanges.{EventsIn, events-in}
 use Rattle.scanner.proofs.KeyCounts.{keys-step}
 use Rattle.scanner.proofs.Walks.{events-step}
 use Rattle.compiler.specs.Puts.{putJudged, putWritten}
-use Rattle.compiler.specs.Reads.{EventsFit, walked}
+use Rattle.compiler.specs.Reads.{EventsFit, walkOver}
 use Rattle.compiler.specs.declared.events.Walk.{Walk}
 
 -- ---- Events written one after the other
@@ -210,11 +210,11 @@ events-fit {l} {target} {out} {k} {at} g =
 
 -- the walk after the events at a position were written, at the value that a match found
 pub after-told : {l target out new : List ℕ} {k at : ℕ} (g : EventsLeft l target out k at) {w : Walk} {r s : AfterEvent}
-    → w ≡ walked (eventsAt l at) k → new ≡ putWritten out k (eventsIn (eventsAt l at)) → r ≡ afterEventAt l (w .at) → r ≡ s
+    → w ≡ walkOver (eventsAt l at) k → new ≡ putWritten out k (eventsIn (eventsAt l at)) → r ≡ afterEventAt l (w .at) → r ≡ s
     → AfterHere l target new (w .events) (w .at) s
 after-told {l} {target} {out} {new} {k} {at} g {w} {r} {s} e b p q =
     let h = events-here l target out k at g in
-    let v : w ≡ record { at = h .next; events = k + length (h .es) } = e ∙ ap (λ (x : EventsRead). walked x k) (h .read) in
+    let v : w ≡ record { at = h .next; events = k + length (h .es) } = e ∙ ap (λ (x : EventsRead). walkOver x k) (h .read) in
     let o : new ≡ putWritten out k (h .es) = b ∙ ap (λ (x : EventsRead). putWritten out k (eventsIn x)) (h .read) in
     let a : AfterHere l target new (k + length (h .es)) (h .next) (afterEventAt l (h .next)) =
     subst (λ (x : List ℕ). AfterHere l target x (k + length (h .es)) (h .next) (afterEventAt l (h .next))) (sym o) (h .after) in
@@ -223,10 +223,10 @@ after-told {l} {target} {out} {new} {k} {at} g {w} {r} {s} e b p q =
     subst (AfterHere l target new (w .events) (w .at)) (sym p ∙ q) c
 
 -- where the events at a position end
-pub walk-in : {l target out : List ℕ} {k at : ℕ} (g : EventsLeft l target out k at) {w : Walk} → w ≡ walked (eventsAt l at) k
+pub walk-in : {l target out : List ℕ} {k at : ℕ} (g : EventsLeft l target out k at) {w : Walk} → w ≡ walkOver (eventsAt l at) k
     → (at < w .at) × (w .at ≤ length l)
 walk-in {l} {target} {out} {k} {at} g {w} e =
     let h = events-here l target out k at g in
-    let v : w ≡ record { at = h .next; events = k + length (h .es) } = e ∙ ap (λ (x : EventsRead). walked x k) (h .read) in
+    let v : w ≡ record { at = h .next; events = k + length (h .es) } = e ∙ ap (λ (x : EventsRead). walkOver x k) (h .read) in
     let a : w .at ≡ h .next = ap (λ (x : Walk). x .at) v in
     (omega (arith, h .past), omega (arith, h .inside))

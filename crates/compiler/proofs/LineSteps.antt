@@ -17,10 +17,10 @@ use Rattle.scanner.proofs.Runs.{run-from, run-in}
 use Rattle.lines.specs.declared.totals.Totals.{Totals}
 use Rattle.lines.specs.declared.totals.Line.{Line}
 use Rattle.lines.specs.declared.line.LineJudged.{LineJudged}
-use Rattle.lines.specs.Totals.{totalsOf, lineOf, withLine, TotalsIn}
+use Rattle.lines.specs.Totals.{totalsOf, lineHeld, withLine, TotalsIn}
 use Rattle.lines.specs.Line.{callsStart, judgedOf}
 use Rattle.lines.proofs.Sums.{totals-more, totals-in}
-use Rattle.tables.specs.Layout.{image}
+use Rattle.tables.specs.Layout.{image, tableLength}
 use Rattle.tables.proofs.Images.{length-image}
 use Rattle.compiler.specs.Puts.{putLine}
 use Rattle.compiler.specs.Reads.{LineFits}
@@ -74,13 +74,13 @@ module _ (d : Directive) (ps : List Production) (rest : List ℕ) (base : ℕ) (
 
 -- ---- The bytes so far
 
-pub held-length : (ps : List Production) (rest : List ℕ) → passesLimit ps ≡ false → length (held ps rest) ≡ 5904 + length rest
+pub held-length : (ps : List Production) (rest : List ℕ) → passesLimit ps ≡ false → length (held ps rest) ≡ tableLength + length rest
 unfolding held
 held-length ps rest h =
     omega (arith, length-append (image (soFar ps)) rest, length-image (soFar ps) (so-far-room ps h))
 
 module _ (t : Totals) (out : List ℕ) (u : Underway t out) where
-  pub underway-length : length out ≡ 5904 + length (u .rest)
+  pub underway-length : length out ≡ tableLength + length (u .rest)
   underway-length = ap length (u .bytes) ∙ held-length (u .ps) (u .rest) (u .kept)
 
   pub underway-in : TotalsIn t
@@ -99,7 +99,7 @@ module _ (t : Totals) (out : List ℕ) (u : Underway t out) where
   pub record Adds (base : ℕ) (l : List ℕ) (line : Line) : Type 0 where
     pub p : Production
     pub outcome : lineOutcome (u .ps) base l ≡ add p
-    pub is : line ≡ lineOf (callsStart l) p
+    pub is : line ≡ lineHeld (callsStart l) p
 
   pub outcome-added : (base : ℕ) (l : List ℕ) (line : Line)
       → LineJudged.Add line ≡ judgedOf (callsStart l) (lineOutcome (u .ps) base l) → Adds base l line

@@ -67,7 +67,7 @@ cleared-rest l = ap (drop tableLength) (cleared-held l) ∙ held-rest [] (drop t
 
 -- the buffer keeps its length, and what follows the table
 pub record Kept (out₀ out : List ℕ) : Type 0 where
-  pub long : length out ≡ 5904 + length (drop tableLength out₀)
+  pub long : length out ≡ tableLength + length (drop tableLength out₀)
   pub rest : drop tableLength out ≡ drop tableLength out₀
 
 kept-held : (ps : List Production) (out₀ out : List ℕ) → passesLimit ps ≡ false → out ≡ held ps (drop tableLength out₀) → Kept out₀ out

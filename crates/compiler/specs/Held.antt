@@ -3,7 +3,7 @@ use Prim.Native.Nat.{ℕ}
 use mathlib.Core.List.{List, [], _++_, map}
 use lib.ListN.{length}
 use Rattle.model.specs.Tables.{Production}
-use Rattle.tables.specs.Layout.{Entries, eventsOf, callsOf, parametersOf, image}
+use Rattle.tables.specs.Layout.{Entries, allEvents, allCalls, allParameters, image}
 
 abbrev pub soFar : List Production → Entries
 soFar ps =
@@ -11,9 +11,9 @@ soFar ps =
       header = [];
       productionEvents = map (λ (p : Production). length (p .events)) ps;
       productionCalls = map (λ (p : Production). length (p .calls)) ps;
-      events = eventsOf ps;
-      calls = callsOf ps;
-      parameters = parametersOf (callsOf ps);
+      events = allEvents ps;
+      calls = allCalls ps;
+      parameters = allParameters (allCalls ps);
     }
 
 -- with what follows the table in the buffer

@@ -6,7 +6,7 @@ use Rattle.model.specs.Lists.{inAll}
 use Rattle.model.specs.Events.{EventsRead, events, leftSide}
 use Rattle.model.specs.Calls.{Parameters, parameters, CallsRead, calls, rightSide}
 use Rattle.model.specs.declared.scan.Span.{Span}
-use Rattle.scanner.specs.Sides.{parametersOf}
+use Rattle.scanner.specs.Sides.{parameterNumber}
 use Rattle.lines.specs.declared.totals.Totals.{Totals}
 use Rattle.lines.specs.declared.totals.Line.{Line}
 use Rattle.compiler.specs.declared.events.Walk.{Walk}
@@ -17,9 +17,9 @@ EventsFit EventsRead.broken k = ⊥
 EventsFit (events es next) k = k + length es ≤ 256
 
 -- where reading goes on, and which event is next
-abbrev pub walked : EventsRead → ℕ → Walk
-walked EventsRead.broken k = record { at = 0; events = k }
-walked (events es next) k = record { at = next; events = k + length es }
+abbrev pub walkOver : EventsRead → ℕ → Walk
+walkOver EventsRead.broken k = record { at = 0; events = k }
+walkOver (events es next) k = record { at = next; events = k + length es }
 
 -- from parameter k on
 abbrev pub ParametersFit : Parameters → ℕ → Type 0
@@ -33,7 +33,7 @@ spansIn (parameters ss next) = ss
 -- from call n and parameter p on
 abbrev pub CallsFit : CallsRead → ℕ → ℕ → Type 0
 CallsFit CallsRead.broken n p = ⊥
-CallsFit (calls cs) n p = (n + length cs ≤ 128) × (p + inAll parametersOf cs ≤ 256)
+CallsFit (calls cs) n p = (n + length cs ≤ 128) × (p + inAll parameterNumber cs ≤ 256)
 
 -- a line that was judged, after productions with these totals
 pub record LineFits (l : List ℕ) (t : Totals) (line : Line) : Type 0 where

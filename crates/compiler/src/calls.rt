@@ -19,6 +19,7 @@ ghost use Rattle.scanner.specs.Sides.{callsIn};
 ghost use Rattle.tables.specs.Writing.{putParameter, putCall};
 ghost use Rattle.compiler.specs.Puts.{putParameters, putCalls};
 ghost use Rattle.compiler.specs.Reads.{ParametersFit, spansIn, CallsFit};
+ghost use Rattle.tables.specs.Layout.{tableLength};
 
 // A part of a line that begins at `base`, as a part of its text.
 fn in_text(start: usize, end: usize, base: usize) -> Span
@@ -33,7 +34,7 @@ fn in_text(start: usize, end: usize, base: usize) -> Span
 
 // One parameter.
 fn write_parameter(start: usize, end: usize, base: usize, out: &mut [u8], k: usize)
-    requires { ⌜ ((start ≤ end) × (base + end ≤ 8192)) × ((5904 ≤ length (now out)) × (k < 256)) ⌝ }
+    requires { ⌜ ((start ≤ end) × (base + end ≤ 8192)) × ((tableLength ≤ length (now out)) × (k < 256)) ⌝ }
     ensures { λ r. ⌜ now (out .exit) ≡ putParameter (now (out .entry)) k (inText base (span start end)) ⌝ }
 {
     let s = in_text(start, end, base);
@@ -42,7 +43,7 @@ fn write_parameter(start: usize, end: usize, base: usize, out: &mut [u8], k: usi
 
 // The parameters of a call, from the first of them on.
 pub fn write_parameters(l: &[u8], at: usize, base: usize, out: &mut [u8], first: usize)
-    requires { ⌜ ((at ≤ length (now l)) × (base + length (now l) ≤ 8192)) × ((5904 ≤ length (now out)) × ParametersFit (parametersFrom (length (now l) + 1) (now l) at) first) ⌝ }
+    requires { ⌜ ((at ≤ length (now l)) × (base + length (now l) ≤ 8192)) × ((tableLength ≤ length (now out)) × ParametersFit (parametersFrom (length (now l) + 1) (now l) at) first) ⌝ }
     ensures { λ r. ⌜ now (out .exit) ≡ putParameters (now (out .entry)) first (map (inText base) (spansIn (parametersFrom (length (now (l .entry)) + 1) (now (l .entry)) at))) ⌝ }
 {
     let mut i = at;
@@ -69,7 +70,7 @@ pub fn write_parameters(l: &[u8], at: usize, base: usize, out: &mut [u8], first:
 
 // After the opening bracket.
 pub fn write_bracket(l: &[u8], at: usize, base: usize, out: &mut [u8], first: usize)
-    requires { ⌜ ((at ≤ length (now l)) × (base + length (now l) ≤ 8192)) × ((5904 ≤ length (now out)) × ParametersFit (parametersAt (now l) at) first) ⌝ }
+    requires { ⌜ ((at ≤ length (now l)) × (base + length (now l) ≤ 8192)) × ((tableLength ≤ length (now out)) × ParametersFit (parametersAt (now l) at) first) ⌝ }
     ensures { λ r. ⌜ now (out .exit) ≡ putParameters (now (out .entry)) first (map (inText base) (spansIn (parametersAt (now (l .entry)) at))) ⌝ }
 {
     match open_parameters(l, at) {
@@ -80,7 +81,7 @@ pub fn write_bracket(l: &[u8], at: usize, base: usize, out: &mut [u8], first: us
 
 // A call's name, with how many parameters it has.
 fn write_name(start: usize, end: usize, count: usize, base: usize, out: &mut [u8], n: usize)
-    requires { ⌜ ((start ≤ end) × (base + end ≤ 8192) × (count ≤ 8192)) × ((5904 ≤ length (now out)) × (n < 128)) ⌝ }
+    requires { ⌜ ((start ≤ end) × (base + end ≤ 8192) × (count ≤ 8192)) × ((tableLength ≤ length (now out)) × (n < 128)) ⌝ }
     ensures { λ r. ⌜ now (out .exit) ≡ putCall (now (out .entry)) n false (inText base (span start end)) count ⌝ }
 {
     let s = in_text(start, end, base);
@@ -89,7 +90,7 @@ fn write_name(start: usize, end: usize, count: usize, base: usize, out: &mut [u8
 
 // The calls of a line from a position on: calls from n on, with their parameters from p on.
 pub fn write_calls(l: &[u8], at: usize, base: usize, out: &mut [u8], n: usize, p: usize)
-    requires { ⌜ ((at ≤ length (now l)) × (base + length (now l) ≤ 8192)) × ((5904 ≤ length (now out)) × CallsFit (rightSide (now l) at) n p) ⌝ }
+    requires { ⌜ ((at ≤ length (now l)) × (base + length (now l) ≤ 8192)) × ((tableLength ≤ length (now out)) × CallsFit (rightSide (now l) at) n p) ⌝ }
     ensures { λ r. ⌜ now (out .exit) ≡ putCalls (now (out .entry)) n p (map (callOf base) (callsIn (rightSide (now (l .entry)) at))) ⌝ }
 {
     let mut i = at;

@@ -1,4 +1,4 @@
-// The events of a line that was judged, written into the table: its left side is walked again.
+// The events of a line that was judged, written into the table: its left side is walkOver again.
 use judge::events::judge_key;
 use judge::spans::judge_event;
 use model::answers::Judged;
@@ -18,7 +18,8 @@ ghost use Rattle.model.specs.Judging.{judgedWritten};
 ghost use Rattle.scanner.specs.Spans.{eventsIn};
 ghost use Rattle.judge.specs.Spans.{writtenIn, SpansIn};
 ghost use Rattle.compiler.specs.Puts.{putJudged, putWritten};
-ghost use Rattle.compiler.specs.Reads.{EventsFit, walked};
+ghost use Rattle.compiler.specs.Reads.{EventsFit, walkOver};
+ghost use Rattle.tables.specs.Layout.{tableLength};
 
 // Where reading goes on, and the number of the next event.
 pub struct Walk {
@@ -28,7 +29,7 @@ pub struct Walk {
 
 // Writes event k where it is kept.
 pub fn write_judged(j: Judged, out: &mut [u8], k: usize)
-    requires { ⌜ (5904 ≤ length (now out)) × (k < 256) ⌝ }
+    requires { ⌜ (tableLength ≤ length (now out)) × (k < 256) ⌝ }
     ensures { λ r. ⌜ now (out .exit) ≡ putJudged (now (out .entry)) k j ⌝ }
 {
     match j {
@@ -39,7 +40,7 @@ pub fn write_judged(j: Judged, out: &mut [u8], k: usize)
 
 // An event as the scanner hands it over.
 pub fn write_plain(l: &[u8], e: EventSpans, out: &mut [u8], k: usize)
-    requires { ⌜ SpansIn (length (now l)) e × ((5904 ≤ length (now out)) × (k < 256)) ⌝ }
+    requires { ⌜ SpansIn (length (now l)) e × ((tableLength ≤ length (now out)) × (k < 256)) ⌝ }
     ensures { λ r. ⌜ now (out .exit) ≡ putJudged (now (out .entry)) k (judgedWritten (writtenIn (now (l .entry)) e)) ⌝ }
 {
     let j = judge_event(l, e);
@@ -48,7 +49,7 @@ pub fn write_plain(l: &[u8], e: EventSpans, out: &mut [u8], k: usize)
 
 // The characters of a key sequence, from a position past its opening quote.
 pub fn write_keys(l: &[u8], at: usize, out: &mut [u8], first: usize)
-    requires { ⌜ (at ≤ length (now l)) × (5904 ≤ length (now out)) × EventsFit (keysFrom (length (now l) + 1) (now l) at) first ⌝ }
+    requires { ⌜ (at ≤ length (now l)) × (tableLength ≤ length (now out)) × EventsFit (keysFrom (length (now l) + 1) (now l) at) first ⌝ }
     ensures { λ r. ⌜ now (out .exit) ≡ putWritten (now (out .entry)) first (eventsIn (keysFrom (length (now (l .entry)) + 1) (now (l .entry)) at)) ⌝ }
 {
     let mut i = at;
@@ -69,8 +70,8 @@ pub fn write_keys(l: &[u8], at: usize, out: &mut [u8], first: usize)
 
 // What stands at a position: an event, or a key sequence.
 pub fn write_event(l: &[u8], at: usize, out: &mut [u8], k: usize) -> Walk
-    requires { ⌜ (at ≤ length (now l)) × (5904 ≤ length (now out)) × EventsFit (eventsAt (now l) at) k ⌝ }
-    ensures { λ r. ⌜ (r ≡ walked (eventsAt (now (l .entry)) at) k) × (now (out .exit) ≡ putWritten (now (out .entry)) k (eventsIn (eventsAt (now (l .entry)) at))) ⌝ }
+    requires { ⌜ (at ≤ length (now l)) × (tableLength ≤ length (now out)) × EventsFit (eventsAt (now l) at) k ⌝ }
+    ensures { λ r. ⌜ (r ≡ walkOver (eventsAt (now (l .entry)) at) k) × (now (out .exit) ≡ putWritten (now (out .entry)) k (eventsIn (eventsAt (now (l .entry)) at))) ⌝ }
 {
     match read_event(l, at) {
         EventRead::Broken => Walk { at: 0, events: k },
@@ -94,7 +95,7 @@ pub fn write_event(l: &[u8], at: usize, out: &mut [u8], k: usize) -> Walk
 
 // The events of a line, up to its colon.
 pub fn write_events(l: &[u8], out: &mut [u8], first: usize)
-    requires { ⌜ (5904 ≤ length (now out)) × EventsFit (leftSide (now l)) first ⌝ }
+    requires { ⌜ (tableLength ≤ length (now out)) × EventsFit (leftSide (now l)) first ⌝ }
     ensures { λ r. ⌜ now (out .exit) ≡ putWritten (now (out .entry)) first (eventsIn (leftSide (now (l .entry)))) ⌝ }
 {
     let mut at: usize = 0;

@@ -18,6 +18,7 @@ ghost use Rattle.names.specs.Find.{directiveGiven};
 ghost use Rattle.compiler.specs.Puts.{putLine};
 ghost use Rattle.compiler.specs.Reads.{LineFits};
 ghost use Rattle.compiler.specs.Progress.{Underway, plainDone, plainHeld, lineDone, lineHeld};
+ghost use Rattle.tables.specs.Layout.{tableLength};
 
 // What the lines so far came to.
 pub struct Progress {
@@ -44,7 +45,7 @@ pub fn directive_at(text: &[u8], at: usize, end: usize) -> FirstLine
 
 // A line that adds a production, after productions with these totals.
 pub fn write_line(l: &[u8], base: usize, out: &mut [u8], t: Totals, line: Line)
-    requires { ⌜ ((5904 ≤ length (now out)) × (base + length (now l) ≤ 8192)) × LineFits (now l) t line ⌝ }
+    requires { ⌜ ((tableLength ≤ length (now out)) × (base + length (now l) ≤ 8192)) × LineFits (now l) t line ⌝ }
     ensures { λ r. ⌜ now (out .exit) ≡ putLine base (now (l .entry)) t line (now (out .entry)) ⌝ }
 {
     write_events(l, out, t.events);

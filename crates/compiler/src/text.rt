@@ -23,7 +23,7 @@ ghost use Rattle.compiler.specs.Compile.{imageOf};
 
 // A refusal leaves the empty table.
 pub fn refuse(table: &mut [u8], number: u8, place: usize) -> Compiled
-    requires { ⌜ 5904 ≤ length (now table) ⌝ }
+    requires { ⌜ tableLength ≤ length (now table) ⌝ }
     ensures { λ r. ⌜ (r ≡ Compiled.Refused number place) × (now (table .exit) ≡ cleared tableLength (now (table .entry))) ⌝ }
 {
     words::clear(table, TABLE_LENGTH);
@@ -32,7 +32,7 @@ pub fn refuse(table: &mut [u8], number: u8, place: usize) -> Compiled
 
 // The header of a table of one text.
 pub fn write_header(out: &mut [u8], s: Progress, text: usize)
-    requires { ⌜ ((5904 ≤ length (now out)) × (text ≤ 8192)) × TotalsIn (s .totals) ⌝ }
+    requires { ⌜ ((tableLength ≤ length (now out)) × (text ≤ 8192)) × TotalsIn (s .totals) ⌝ }
     ensures { λ r. ⌜ now (out .exit) ≡ putHeader (now (out .entry)) (s .directive) (s .totals) text ⌝ }
 {
     let t = s.totals;
@@ -43,7 +43,7 @@ pub fn write_header(out: &mut [u8], s: Progress, text: usize)
 
 // Line by line. Nothing is written of a line that is refused, and the header is written after the last line.
 pub fn compile_lines(text: &[u8], out: &mut [u8]) -> Compiled
-    requires { ⌜ (5904 ≤ length (now out)) × (length (now text) ≤ 8192) ⌝ }
+    requires { ⌜ (tableLength ≤ length (now out)) × (length (now text) ≤ 8192) ⌝ }
     ensures { λ r. ⌜ (r ≡ outcomeAnswer (linesOf (now (text .entry))))
         × (now (out .exit) ≡ imageOf (linesOf (now (text .entry))) ++ drop tableLength (now (out .entry))) ⌝ }
 {

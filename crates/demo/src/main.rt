@@ -132,7 +132,7 @@ fn run(table: &[u8], text: &[u8]) {
 
 fn main() {
     let text = b"<Btn1Down>(2): grant(space)\n<Btn1Down>: look(bucket)\nCtrl<Key>g: grant(space)\n";
-    let mut table = [0u8; 5904];
+    let mut table = [0u8; tables::TABLE_LENGTH];
     match compiler::compile(text, &mut table) {
         Compiled::Accepted => run(&table, text),
         Compiled::Refused {

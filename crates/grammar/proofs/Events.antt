@@ -15,7 +15,7 @@ use Rattle.model.specs.declared.scan.Class.{Class}
 use Rattle.model.specs.declared.scan.Lead.{Lead}
 use Rattle.model.specs.declared.scan.TypeRead.{TypeRead}
 use Rattle.model.specs.declared.scan.CountRead.{CountRead}
-use Rattle.grammar.specs.Bytes.{letterOrDigit, digit, detailByte}
+use Rattle.grammar.specs.Bytes.{letterOrDigit, isDigitSign, detailByte}
 use Rattle.grammar.specs.Tokens.{Run, Word, Blanks, Sign, Optional}
 use Rattle.grammar.specs.Modifiers as Modifiers
 use Rattle.grammar.specs.Events as Grammar
@@ -28,7 +28,7 @@ module _ (l : List ℕ) where
 
   data TypeView (r : List ℕ) : TypeRead → Type 0 where
     broken : TypeView r TypeRead.Broken
-    type : {m : List ℕ} {a b n : ℕ} → Grammar.EventType r (part l a b) m → At l n m → TypeView r (TypeRead.Type a b n)
+    type : {m : List ℕ} {a b n : ℕ} → Grammar.DerivesEventType r (part l a b) m → At l n m → TypeView r (TypeRead.Type a b n)
 
   type-run :
       {r m s j : List ℕ} (p : ℕ) → Sign "<" r m → Blanks m s → (w k : List ℕ) → Run letterOrDigit s w k → Ran l Class.Name p w k
@@ -38,8 +38,8 @@ module _ (l : List ℕ) where
   type-run {r} {m} {s} {j} p t y (b ∷ w) k run ran z (is {r = q}) =
       let e = runEnd Class.Name l p in
       let x = at-skip l e (ran .next) z in
-      let d : Grammar.EventType r (part l p e) q
-      = rw (ran .word) (Grammar.EventType.event-type t y (record { run = run; some = refl }) (record { before = z })) in
+      let d : Grammar.DerivesEventType r (part l p e) q
+      = rw (ran .word) (Grammar.DerivesEventType.event-type t y (record { run = run; some = refl }) (record { before = z })) in
       rw (ran-some l ran, at-byte l (skip l e) j x) (type d (at-next l (skip l e) (code ">") q x))
   type-run {r} {m} {s} {j} p t y (b ∷ w) k run ran z (isnt f) =
       let e = runEnd Class.Name l p in
@@ -96,7 +96,7 @@ module _ (l : List ℕ) where
     s : List ℕ
     sign : Sign "(" r m
     blanks : Blanks m s
-    word : Word digit s (part l a b) k
+    word : Word isDigitSign s (part l a b) k
 
   count-close :
       {r k j s : List ℕ} {a b : ℕ} {plus : Bool} (p : ℕ) → Opened r a b k → Optional "+" k plus j → At l p s → Blanks j s
@@ -120,7 +120,7 @@ module _ (l : List ℕ) where
       (count-close p o (Optional.missing y) x (past-blanks y) (view (code ")") refl s))
 
   count-run :
-      {r m s j : List ℕ} (p : ℕ) → Sign "(" r m → Blanks m s → (w k : List ℕ) → Run digit s w k → Ran l Class.Digit p w k
+      {r m s j : List ℕ} (p : ℕ) → Sign "(" r m → Blanks m s → (w k : List ℕ) → Run isDigitSign s w k → Ran l Class.Digit p w k
       → Blanks k j → CountView r (countRun l p (runEnd Class.Digit l p))
   unfolding countRun
   count-run p t y [] k run ran z = rw (ran-some l ran) broken
@@ -135,7 +135,7 @@ module _ (l : List ℕ) where
       let z = past m in
       let q = skip l (p + 1) in
       let x1 = at-skip l (p + 1) (at-next l p (code "(") m x) (z .blanks) in
-      let f = front digit (z .rest) in
+      let f = front isDigitSign (z .rest) in
       let v = past (f .rest) in
       rw (at-byte l p s x)
       (count-run q (record { before = y }) (z .blanks) (f .word) (f .rest) (f .run) (at-run l same-digit q x1 (f .run)) (v .blanks))
@@ -150,30 +150,30 @@ module _ (l : List ℕ) where
 
   pub data EventRead (r : List ℕ) : EventsRead → Type 0 where
     broken : EventRead r EventsRead.broken
-    event : {m : List ℕ} {e : Written.Written} {n : ℕ} → Grammar.Event r e m → At l n m
+    event : {m : List ℕ} {e : Written.Written} {n : ℕ} → Grammar.DerivesEvent r e m → At l n m
         → EventRead r (EventsRead.events (Written.WrittenEvent.event e ∷ []) n)
 
   detail-sound :
       {r k m s : List ℕ} {ml : Written.ModifierList} {w : List ℕ} {count : Option Written.Count} (p : ℕ) → At l p s
-      → Modifiers.ModifierList r ml k → Grammar.EventType k w m → Grammar.OptionalCount m count s
+      → Modifiers.DerivesModifierList r ml k → Grammar.DerivesEventType k w m → Grammar.OptionalCount m count s
       → EventRead r (withDetail l ml w count (skip l p))
   detail-sound {s = s} p x ml t c =
       let y = past s in
       let q = skip l p in
       let f = front detailByte (y .rest) in
       let ran = at-run l same-detail q (at-skip l p x (y .blanks)) (f .run) in
-      let d : Grammar.Detail s (part l q (runEnd Class.Detail l q)) (f .rest) = rw (ran .word) (Grammar.Detail.detail (y .blanks) (f .run)) in
-      event (Grammar.Event.event ml t c d) (ran .next)
+      let d : Grammar.DerivesDetail s (part l q (runEnd Class.Detail l q)) (f .rest) = rw (ran .word) (Grammar.DerivesDetail.detail (y .blanks) (f .run)) in
+      event (Grammar.DerivesEvent.event ml t c d) (ran .next)
 
   event-count :
-      {r k m : List ℕ} {ml : Written.ModifierList} {w : List ℕ} {x : CountRead} → Modifiers.ModifierList r ml k → Grammar.EventType k w m
+      {r k m : List ℕ} {ml : Written.ModifierList} {w : List ℕ} {x : CountRead} → Modifiers.DerivesModifierList r ml k → Grammar.DerivesEventType k w m
       → CountView m x → EventRead r (withCount l ml w x)
   event-count ml t broken = broken
   event-count ml t (absent {n = n} c x) = detail-sound n x ml t c
   event-count ml t (digits {n = n} c x) = detail-sound n x ml t c
 
   event-type :
-      {r k : List ℕ} {ml : Written.ModifierList} {x : TypeRead} → Modifiers.ModifierList r ml k → TypeView k x → EventRead r (withType l ml x)
+      {r k : List ℕ} {ml : Written.ModifierList} {x : TypeRead} → Modifiers.DerivesModifierList r ml k → TypeView k x → EventRead r (withType l ml x)
   event-type ml broken = broken
   event-type ml (type {n = n} t x) = event-count ml t (count-sound n x)
 
@@ -260,20 +260,20 @@ module _ (l : List ℕ) where
     pub at : At l next m
 
   detail-complete :
-      (ml : Written.ModifierList) (v : List ℕ) (count : Option Written.Count) {s w m : List ℕ} (p : ℕ) → At l p s → Grammar.Detail s w m
+      (ml : Written.ModifierList) (v : List ℕ) (count : Option Written.Count) {s w m : List ℕ} (p : ℕ) → At l p s → Grammar.DerivesDetail s w m
       → (withDetail l ml v count (skip l p)
       ≡ EventsRead.events (Written.WrittenEvent.event (record { list = ml; typeName = v; count = count; detail = w }) ∷ []) (runEnd Class.Detail l (skip l p)))
       × At l (runEnd Class.Detail l (skip l p)) m
-  detail-complete ml v count p x (Grammar.Detail.detail y run) =
+  detail-complete ml v count p x (Grammar.DerivesDetail.detail y run) =
       let ran = at-run l same-detail (skip l p) (at-skip l p x y) run in
       (rw (ran .word), ran .next)
 
   event-typed :
       {r k n m q d : List ℕ} {w : List ℕ} {ml : Written.ModifierList} {count : Option Written.Count} (p : ℕ) → At l p r
-      → Modifiers.ModifierList r ml k → Grammar.EventType k w n → Grammar.OptionalCount n count q → Grammar.Detail q d m
+      → Modifiers.DerivesModifierList r ml k → Grammar.DerivesEventType k w n → Grammar.OptionalCount n count q → Grammar.DerivesDetail q d m
       → EventGot p (record { list = ml; typeName = w; count = count; detail = d }) m
   unfolding plainEventAt
-  event-typed {w = w} {ml = ml} {count = count} p x dl (Grammar.EventType.event-type {m = m1} s y word z) dc dd =
+  event-typed {w = w} {ml = ml} {count = count} p x dl (Grammar.DerivesEventType.event-type {m = m1} s y word z) dc dd =
       let g = list-complete l p x dl s in
       let h = type-complete (g .next) (g .at) y word z in
       let i = count-complete ml w (h .next) (h .at) dc in
@@ -284,20 +284,20 @@ module _ (l : List ℕ) where
         at = j .1;
       }
 
-  pub event-complete : {r m : List ℕ} {e : Written.Written} (p : ℕ) → At l p r → Grammar.Event r e m → EventGot p e m
-  event-complete p x (Grammar.Event.event dl dt dc dd) = event-typed p x dl dt dc dd
+  pub event-complete : {r m : List ℕ} {e : Written.Written} (p : ℕ) → At l p r → Grammar.DerivesEvent r e m → EventGot p e m
+  event-complete p x (Grammar.DerivesEvent.event dl dt dc dd) = event-typed p x dl dt dc dd
 
-  type-length : {r w m : List ℕ} → Grammar.EventType r w m → length m < length r
-  type-length (Grammar.EventType.event-type s y word z) = omega (arith, sign-length s, blanks-length y, word-length word, sign-length z)
+  type-length : {r w m : List ℕ} → Grammar.DerivesEventType r w m → length m < length r
+  type-length (Grammar.DerivesEventType.event-type s y word z) = omega (arith, sign-length s, blanks-length y, word-length word, sign-length z)
 
   count-length : {r m : List ℕ} {count : Option Written.Count} → Grammar.OptionalCount r count m → length m ≤ length r
   count-length (Grammar.OptionalCount.absent y e) = blanks-length y
   count-length (Grammar.OptionalCount.present s y word o z) =
       omega (arith, sign-length s, blanks-length y, word-length word, optional-length o, sign-length z)
 
-  detail-length : {r w m : List ℕ} → Grammar.Detail r w m → length m ≤ length r
-  detail-length (Grammar.Detail.detail y run) = omega (arith, blanks-length y, run-shorter run)
+  detail-length : {r w m : List ℕ} → Grammar.DerivesDetail r w m → length m ≤ length r
+  detail-length (Grammar.DerivesDetail.detail y run) = omega (arith, blanks-length y, run-shorter run)
 
-  pub event-length : {r m : List ℕ} {e : Written.Written} → Grammar.Event r e m → length m < length r
-  event-length (Grammar.Event.event dl dt dc dd) =
+  pub event-length : {r m : List ℕ} {e : Written.Written} → Grammar.DerivesEvent r e m → length m < length r
+  event-length (Grammar.DerivesEvent.event dl dt dc dd) =
       omega (arith, list-length l dl, type-length dt, count-length dc, detail-length dd)

@@ -13,8 +13,8 @@ use Rattle.model.specs.Tables as Tables
 use Rattle.model.specs.Compiling.{LineRead, lineRead, Outcome, accepted, refused, tableOf, compiled}
 use Rattle.model.specs.declared.scan.Span.{Span}
 use Rattle.grammar.specs.Tokens.{Stands}
-use Rattle.grammar.specs.Productions.{Production}
-use Rattle.grammar.specs.Texts.{startOf}
+use Rattle.grammar.specs.Productions.{DerivesProduction}
+use Rattle.grammar.specs.Texts.{startInText}
 use Rattle.grammar.specs.Compiling.{Compiles}
 use Rattle.grammar.specs.Exact.{Accepts, FirstNotDerived, Exact}
 use Rattle.grammar.proofs.Productions.{LineView, line-sound, line-complete}
@@ -25,7 +25,7 @@ use Rattle.grammar.proofs.OneReading.{one-line, one-text}
 -- ---- A line
 
 production-of :
-    (l : List ℕ) (es : List WrittenEvent) (cs : List WrittenCall) (x : LineRead) → LineView l x → x ≡ LineRead.production es cs → Production l es cs
+    (l : List ℕ) (es : List WrittenEvent) (cs : List WrittenCall) (x : LineRead) → LineView l x → x ≡ LineRead.production es cs → DerivesProduction l es cs
 production-of l es cs x LineView.broken e = let z : _≡_ {A = ℕ} 0 1 = cc in absurd (omega arith)
 production-of l es cs x (LineView.production {es = fs} {cs = ds} d) e =
     let i : es ≡ fs = cc in let j : cs ≡ ds = cc in rw (i, j) d
@@ -49,7 +49,7 @@ not-grammar-of : (text : List ℕ) (place : ℕ) (o : Outcome) → Compiles text
 not-grammar-of text place o (Compiles.longText h) e = let z : Numbers.longText ≡ Numbers.notGrammar = cc in absurd (omega arith)
 not-grammar-of text place o (Compiles.badByte h run) e = let z : Numbers.badByte ≡ Numbers.notGrammar = cc in absurd (omega arith)
 not-grammar-of text place o (Compiles.notGrammar {l = l} {w = w} {r = r} {d = d} {ps = ps} al u c n) e =
-    let i : place ≡ startOf text l = cc in
+    let i : place ≡ startInText text l = cc in
     record {
       allowed = al;
       directive = d;

@@ -22,7 +22,7 @@ use Rattle.model.proofs.Sameness.{same-eq}
 use Rattle.grammar.specs.Bytes.{blank, lineByte}
 use Rattle.grammar.specs.Tokens.{Run, Blanks}
 use Rattle.grammar.specs.Productions as Grammar
-use Rattle.grammar.specs.Texts.{Line, Directive, startOf}
+use Rattle.grammar.specs.Texts.{Line, Directive, startInText}
 use Rattle.grammar.proofs.Places.{At, front, no-blanks, at-start, at-past, at-within, at-next, at-run, same-blank, same-line, run-length}
 use Rattle.grammar.proofs.Productions.{Dead, dead-line, line-complete}
 
@@ -69,7 +69,7 @@ module _ (text : List ℕ) where
   unfolding lineEnd
   at-next-line {l} {w} {r} p x run = at-next text (runEnd Class.Line text p) 10 r (at-run text same-line p x run .next)
 
-  pub at-place : {l : List ℕ} (p : ℕ) → At text p l → p ≡ startOf text l
+  pub at-place : {l : List ℕ} (p : ℕ) → At text p l → p ≡ startInText text l
   at-place p x = omega (arith, x .len)
 
 pub line-shorter : {l w r : List ℕ} → Run lineByte l w (10 ∷ r) → length r < length l
@@ -139,11 +139,11 @@ dead-hash m =
 hash-line : (m : List ℕ) → lineRead (code "#" ∷ m) ≡ LineRead.broken
 hash-line m = dead-line (code "#" ∷ m) (no-blanks (code "#" ∷ m) refl) (dead-hash m) refl
 
-no-production : {w : List ℕ} {es : List WrittenEvent} {cs : List WrittenCall} → lineRead w ≡ LineRead.broken → Grammar.Production w es cs → ⊥
+no-production : {w : List ℕ} {es : List WrittenEvent} {cs : List WrittenCall} → lineRead w ≡ LineRead.broken → Grammar.DerivesProduction w es cs → ⊥
 no-production {w} e d = let z : _≡_ {A = ℕ} 0 1 = cc (e, line-complete w d) in omega arith
 
 pub directive-no-production :
-    {w : List ℕ} {d : Model.Directive} {es : List WrittenEvent} {cs : List WrittenCall} → Directive w d → Grammar.Production w es cs → ⊥
+    {w : List ℕ} {d : Model.Directive} {es : List WrittenEvent} {cs : List WrittenCall} → Directive w d → Grammar.DerivesProduction w es cs → ⊥
 directive-no-production Directive.replace d = no-production (hash-line (bytes "replace")) d
 directive-no-production Directive.override d = no-production (hash-line (bytes "override")) d
 directive-no-production Directive.augment d = no-production (hash-line (bytes "augment")) d
@@ -157,7 +157,7 @@ dead-end : Dead []
 dead-end = record { noBlank = refl; noBang = refl; noColon = refl; noLess = refl; noTilde = refl; noAt = refl; noName = refl }
 
 pub blanks-no-production :
-    {w : List ℕ} {es : List WrittenEvent} {cs : List WrittenCall} → all blank w ≡ true → Grammar.Production w es cs → ⊥
+    {w : List ℕ} {es : List WrittenEvent} {cs : List WrittenCall} → all blank w ≡ true → Grammar.DerivesProduction w es cs → ⊥
 blanks-no-production {w} e d =
     let y : Blanks w [] = record { blanks = w; run = record { split = sym (append-nil w); within = e; longest = refl } } in
     no-production (dead-line w y dead-end refl) d

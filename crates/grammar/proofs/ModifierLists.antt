@@ -77,17 +77,17 @@ module _ (l : List ℕ) where
   -- neither `!` nor `:` begins a modifier, or stands for the `<`
   module _ (c : ℕ) (noName : letterOrDigit c ≡ false) (noAt : eqb (code "@") c ≡ false) (noTilde : eqb (code "~") c ≡ false)
       (noLess : eqb (code "<") c ≡ false) where
-    name-without : {tilde : Bool} {r k : List ℕ} {m : Written.Modifier} → Grammar.ModifierName tilde r m k → Without c r
-    name-without (Grammar.ModifierName.keysym {m = s} y word) = record { from = code "@" ∷ s; blanks = y .before; noSign = noAt }
-    name-without (Grammar.ModifierName.name {m = s} y word) = record { from = s; blanks = y; noSign = word-first word c noName }
+    name-without : {tilde : Bool} {r k : List ℕ} {m : Written.Modifier} → Grammar.DerivesModifierName tilde r m k → Without c r
+    name-without (Grammar.DerivesModifierName.keysym {m = s} y word) = record { from = code "@" ∷ s; blanks = y .before; noSign = noAt }
+    name-without (Grammar.DerivesModifierName.name {m = s} y word) = record { from = s; blanks = y; noSign = word-first word c noName }
 
-    modifier-without : {r k : List ℕ} {m : Written.Modifier} → Grammar.Modifier r m k → Without c r
-    modifier-without (Grammar.Modifier.plain d) = name-without d
-    modifier-without (Grammar.Modifier.tilde {k = k} s d) = record { from = code "~" ∷ k; blanks = s .before; noSign = noTilde }
+    modifier-without : {r k : List ℕ} {m : Written.Modifier} → Grammar.DerivesModifier r m k → Without c r
+    modifier-without (Grammar.DerivesModifier.plain d) = name-without d
+    modifier-without (Grammar.DerivesModifier.tilde {k = k} s d) = record { from = code "~" ∷ k; blanks = s .before; noSign = noTilde }
 
-    modifiers-without : {r k m : List ℕ} {ms : List Written.Modifier} → Grammar.Modifiers r ms k → Sign "<" k m → Without c r
-    modifiers-without {m = m} Grammar.Modifiers.none s = record { from = code "<" ∷ m; blanks = s .before; noSign = noLess }
-    modifiers-without (Grammar.Modifiers.more d e ds) s = modifier-without d
+    modifiers-without : {r k m : List ℕ} {ms : List Written.Modifier} → Grammar.DerivesModifiers r ms k → Sign "<" k m → Without c r
+    modifiers-without {m = m} Grammar.DerivesModifiers.none s = record { from = code "<" ∷ m; blanks = s .before; noSign = noLess }
+    modifiers-without (Grammar.DerivesModifiers.more d e ds) s = modifier-without d
 
   colon-complete :
       (bang : Bool) {k m s : List ℕ} {c : Bool} (p : ℕ) → At l p s → Blanks k s → Optional ":" k c m → Without (code ":") m
@@ -119,14 +119,14 @@ module _ (l : List ℕ) where
 
   -- ---- `None` and `Any` stand alone
 
-  alone-same : (ms : List Written.Modifier) → any isNoneOrAny ms ≡ any Grammar.standsAlone ms
+  alone-same : (ms : List Written.Modifier) → any isNoneOrAny ms ≡ any Grammar.isLoneName ms
   alone-same [] = refl
   alone-same (Written.Modifier.name t w ∷ ms) = ap (λ b. same w (bytes "None") || same w (bytes "Any") || b) (alone-same ms)
   alone-same (Written.Modifier.keysym t w ∷ ms) = alone-same ms
 
   pub data ListRead (r j : List ℕ) : Option Written.ModifierList → Type 0 where
     refused : ListRead r j none
-    list : {ml : Written.ModifierList} → Grammar.ModifierList r ml j → ListRead r j (some ml)
+    list : {ml : Written.ModifierList} → Grammar.DerivesModifierList r ml j → ListRead r j (some ml)
 
   or-second : (a b : Bool) → (a || b || false) ≡ true → a ≡ false → b ≡ true
   or-second true b e f = absurd (false≢true (sym f))
@@ -135,22 +135,22 @@ module _ (l : List ℕ) where
 
   lone-word :
       {r s w j : List ℕ} → Blanks r s → Word letterOrDigit s w j → any isNoneOrAny (Written.Modifier.name false w ∷ []) ≡ true
-      → (t : Bool) → same w (bytes "None") ≡ t → Grammar.ModifierList r (loneList (Written.Modifier.name false w ∷ [])) j
+      → (t : Bool) → same w (bytes "None") ≡ t → Grammar.DerivesModifierList r (loneList (Written.Modifier.name false w ∷ [])) j
   lone-word {r} {s} {w} {j} y word a true e =
       let i : w ≡ bytes "None" = same-eq w (bytes "None") e in
-      rw e (Grammar.ModifierList.none y (rw i at word))
+      rw e (Grammar.DerivesModifierList.none y (rw i at word))
   lone-word {r} {s} {w} {j} y word a false e =
       let i : w ≡ bytes "Any" = same-eq w (bytes "Any") (or-second (same w (bytes "None")) (same w (bytes "Any")) a e) in
-      rw e (Grammar.ModifierList.any y (rw i at word))
+      rw e (Grammar.DerivesModifierList.any y (rw i at word))
 
   lone-modifier :
-      {r s j : List ℕ} {x : Written.Modifier} → Blanks r s → Grammar.Modifier s x j → any isNoneOrAny (x ∷ []) ≡ true → hasTilde x ≡ false
-      → Grammar.ModifierList r (loneList (x ∷ [])) j
-  lone-modifier y (Grammar.Modifier.plain (Grammar.ModifierName.name {w = w} z word)) a t =
+      {r s j : List ℕ} {x : Written.Modifier} → Blanks r s → Grammar.DerivesModifier s x j → any isNoneOrAny (x ∷ []) ≡ true → hasTilde x ≡ false
+      → Grammar.DerivesModifierList r (loneList (x ∷ [])) j
+  lone-modifier y (Grammar.DerivesModifier.plain (Grammar.DerivesModifierName.name {w = w} z word)) a t =
       lone-word (rw (sym (blanks-none z (y .run .longest))) y) word a (same w (bytes "None")) refl
-  lone-modifier y (Grammar.Modifier.plain (Grammar.ModifierName.keysym z word)) a t = absurd (false≢true a)
-  lone-modifier y (Grammar.Modifier.tilde u (Grammar.ModifierName.name z word)) a t = absurd (false≢true (sym t))
-  lone-modifier y (Grammar.Modifier.tilde u (Grammar.ModifierName.keysym z word)) a t = absurd (false≢true a)
+  lone-modifier y (Grammar.DerivesModifier.plain (Grammar.DerivesModifierName.keysym z word)) a t = absurd (false≢true a)
+  lone-modifier y (Grammar.DerivesModifier.tilde u (Grammar.DerivesModifierName.name z word)) a t = absurd (false≢true (sym t))
+  lone-modifier y (Grammar.DerivesModifier.tilde u (Grammar.DerivesModifierName.keysym z word)) a t = absurd (false≢true a)
 
   and-left-not : (a b : Bool) → (not (a || false) && b) ≡ true → a ≡ false
   and-left-not true b e = absurd (false≢true e)
@@ -158,12 +158,12 @@ module _ (l : List ℕ) where
 
   lone :
       (bang colon : Bool) {r k m j : List ℕ} (ms : List Written.Modifier) → Optional "!" r bang k → Optional ":" k colon m
-      → Grammar.Modifiers m ms j → any isNoneOrAny ms ≡ true → standsAlone bang colon ms ≡ true
-      → Grammar.ModifierList r (loneList ms) j
+      → Grammar.DerivesModifiers m ms j → any isNoneOrAny ms ≡ true → standsAlone bang colon ms ≡ true
+      → Grammar.DerivesModifierList r (loneList ms) j
   lone true colon ms o c d a s = absurd (false≢true s)
   lone false true ms o c d a s = absurd (false≢true s)
   lone false false [] o c d a s = absurd (false≢true a)
-  lone false false (x ∷ []) (Optional.missing y) (Optional.missing z) (Grammar.Modifiers.more d p Grammar.Modifiers.none) a s =
+  lone false false (x ∷ []) (Optional.missing y) (Optional.missing z) (Grammar.DerivesModifiers.more d p Grammar.DerivesModifiers.none) a s =
       lone-modifier (rw (blanks-none z (y .run .longest)) at y) d a (and-left-not (hasTilde x) (eqb 1 1) s)
   lone false false (x ∷ v ∷ ms) o c d a s =
       let i : length (x ∷ v ∷ ms) ≡ 1 = eqb-true (length (x ∷ v ∷ ms)) 1 (and-right (not (any hasTilde (x ∷ v ∷ ms))) (eqb (length (x ∷ v ∷ ms)) 1) s) in
@@ -171,16 +171,16 @@ module _ (l : List ℕ) where
 
   list-view :
       {bang colon : Bool} {r k m j : List ℕ} {ms : List Written.Modifier} → Optional "!" r bang k → Optional ":" k colon m
-      → Grammar.Modifiers m ms j → (t u : Bool) → any isNoneOrAny ms ≡ t → standsAlone bang colon ms ≡ u
+      → Grammar.DerivesModifiers m ms j → (t u : Bool) → any isNoneOrAny ms ≡ t → standsAlone bang colon ms ≡ u
       → ListRead r j (listOf bang colon ms)
   unfolding listOf
-  list-view {bang} {colon} {ms = ms} o c d false u e f = rw e (list (Grammar.ModifierList.listed o c d (sym (alone-same ms) ∙ e)))
+  list-view {bang} {colon} {ms = ms} o c d false u e f = rw e (list (Grammar.DerivesModifierList.listed o c d (sym (alone-same ms) ∙ e)))
   list-view {bang} {colon} {ms = ms} o c d true false e f = rw (e, f) refused
   list-view {bang} {colon} {ms = ms} o c d true true e f = rw (e, f) (list (lone bang colon ms o c d e f))
 
   pub list-sound :
       {bang colon : Bool} {r k m j : List ℕ} {ms : List Written.Modifier} → Optional "!" r bang k → Optional ":" k colon m
-      → Grammar.Modifiers m ms j → ListRead r j (listOf bang colon ms)
+      → Grammar.DerivesModifiers m ms j → ListRead r j (listOf bang colon ms)
   list-sound {bang} {colon} {ms = ms} o c d = list-view o c d (any isNoneOrAny ms) (standsAlone bang colon ms) refl refl
 
   -- a list that the grammar derives is read, up to its `<`
@@ -199,7 +199,7 @@ module _ (l : List ℕ) where
   unfolding leadAt leadFrom leadColon
   lone-complete word ml e {r} {s} {j} {m} p x y w t =
       let x1 = at-skip l p x y in
-      let g = one-complete l (length l + 1) (skip l p) (omega (arith, x1 .len)) x1 (Grammar.Modifier.plain (Grammar.ModifierName.name (past-blanks y) w)) t in
+      let g = one-complete l (length l + 1) (skip l p) (omega (arith, x1 .len)) x1 (Grammar.DerivesModifier.plain (Grammar.DerivesModifierName.name (past-blanks y) w)) t in
       record {
         lead = record { bang = false; colon = false; next = skip l p };
         ms = Written.Modifier.name false word ∷ [];
@@ -210,9 +210,9 @@ module _ (l : List ℕ) where
         at = g .at;
       }
 
-  pub list-complete : {r j m : List ℕ} {ml : Written.ModifierList} (p : ℕ) → At l p r → Grammar.ModifierList r ml j → Sign "<" j m → ListGot p ml m
+  pub list-complete : {r j m : List ℕ} {ml : Written.ModifierList} (p : ℕ) → At l p r → Grammar.DerivesModifierList r ml j → Sign "<" j m → ListGot p ml m
   unfolding listOf
-  list-complete p x (Grammar.ModifierList.listed {bang = bang} {colon = colon} {ms = ms} o c d e) t =
+  list-complete p x (Grammar.DerivesModifierList.listed {bang = bang} {colon = colon} {ms = ms} o c d e) t =
       let g = lead-complete p x o c (modifiers-without (code "!") refl refl refl refl d t) (modifiers-without (code ":") refl refl refl refl d t) in
       let h = modifiers-complete l (length l + 1) (g .next) (omega (arith, g .at .len)) (g .at) d t in
       record {
@@ -224,10 +224,10 @@ module _ (l : List ℕ) where
         lists = rw (alone-same ms ∙ e);
         at = h .at;
       }
-  list-complete p x (Grammar.ModifierList.none y w) t = lone-complete (bytes "None") Written.ModifierList.noModifier refl p x y w t
-  list-complete p x (Grammar.ModifierList.any y w) t = lone-complete (bytes "Any") Written.ModifierList.anyModifier refl p x y w t
+  list-complete p x (Grammar.DerivesModifierList.none y w) t = lone-complete (bytes "None") Written.ModifierList.noModifier refl p x y w t
+  list-complete p x (Grammar.DerivesModifierList.any y w) t = lone-complete (bytes "Any") Written.ModifierList.anyModifier refl p x y w t
 
-  pub list-length : {r j : List ℕ} {ml : Written.ModifierList} → Grammar.ModifierList r ml j → length j ≤ length r
-  list-length (Grammar.ModifierList.listed o c d e) = omega (arith, optional-length o, optional-length c, modifiers-length l d)
-  list-length (Grammar.ModifierList.none y w) = omega (arith, blanks-length y, word-length w)
-  list-length (Grammar.ModifierList.any y w) = omega (arith, blanks-length y, word-length w)
+  pub list-length : {r j : List ℕ} {ml : Written.ModifierList} → Grammar.DerivesModifierList r ml j → length j ≤ length r
+  list-length (Grammar.DerivesModifierList.listed o c d e) = omega (arith, optional-length o, optional-length c, modifiers-length l d)
+  list-length (Grammar.DerivesModifierList.none y w) = omega (arith, blanks-length y, word-length w)
+  list-length (Grammar.DerivesModifierList.any y w) = omega (arith, blanks-length y, word-length w)

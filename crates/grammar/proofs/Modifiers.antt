@@ -14,16 +14,16 @@ use Rattle.model.specs.Events.{keysymFrom, nameFrom, modifierNameAt, modifierFr
 use Rattle.model.specs.declared.scan.Class.{Class}
 use Rattle.model.specs.declared.scan.ModifierRead.{ModifierRead}
 use Rattle.grammar.specs.Bytes.{blank, letterOrDigit, keysymByte}
-use Rattle.grammar.specs.Tokens.{begins, Run, Blanks, Sign}
+use Rattle.grammar.specs.Tokens.{beginsWith, Run, Blanks, Sign}
 use Rattle.grammar.specs.Modifiers as Grammar
 use Rattle.grammar.proofs.Places.{At, Ran, SignView, is, isnt, view, first, front, past, at-byte, at-next, at-run, at-skip, ran-some, same-name, same-keysym, word-first, word-begins, kind-not, past-or-blank, blanks-length, sign-length, word-length}
 
 -- a modifier's run has ended, and no `@` stands directly after it
 pub record Unjoined (r : List ℕ) : Type 0 where
   pub noAt : eqb (first r) (code "@") ≡ false
-  pub noName : begins letterOrDigit r ≡ false
+  pub noName : beginsWith letterOrDigit r ≡ false
 
-keysym-end : (r : List ℕ) → begins keysymByte r ≡ false → begins letterOrDigit r ≡ false
+keysym-end : (r : List ℕ) → beginsWith keysymByte r ≡ false → beginsWith letterOrDigit r ≡ false
 keysym-end [] e = refl
 keysym-end (b ∷ r) e = go (letterOrDigit b) (isCode b "_") e
   where
@@ -36,9 +36,9 @@ module _ (l : List ℕ) where
 
   data NamedRead (tilde : Bool) (r : List ℕ) : ModifierRead → Type 0 where
     broken : NamedRead tilde r ModifierRead.Broken
-    name : {k : List ℕ} {a b : ℕ} → Grammar.ModifierName tilde r (Written.Modifier.name tilde (part l a b)) k → At l b k → Unjoined k
+    name : {k : List ℕ} {a b : ℕ} → Grammar.DerivesModifierName tilde r (Written.Modifier.name tilde (part l a b)) k → At l b k → Unjoined k
         → NamedRead tilde r (ModifierRead.Name tilde a b)
-    keysym : {k : List ℕ} {a b : ℕ} → Grammar.ModifierName tilde r (Written.Modifier.keysym tilde (part l a b)) k → At l b k → Unjoined k
+    keysym : {k : List ℕ} {a b : ℕ} → Grammar.DerivesModifierName tilde r (Written.Modifier.keysym tilde (part l a b)) k → At l b k → Unjoined k
         → NamedRead tilde r (ModifierRead.Keysym tilde a b)
 
   keysym-run :
@@ -48,8 +48,8 @@ module _ (l : List ℕ) where
   keysym-run tilde p s [] k run ran v = rw (ran-some l ran) broken
   keysym-run tilde p s (b ∷ w) k run ran is = rw (ran-some l ran, at-byte l (runEnd Class.Keysym l p) k (ran .next)) broken
   keysym-run tilde {r} {m} p s (b ∷ w) k run ran (isnt f) =
-      let d : Grammar.ModifierName tilde r (Written.Modifier.keysym tilde (part l p (runEnd Class.Keysym l p))) k
-      = rw (ran .word) (Grammar.ModifierName.keysym s (record { run = run; some = refl })) in
+      let d : Grammar.DerivesModifierName tilde r (Written.Modifier.keysym tilde (part l p (runEnd Class.Keysym l p))) k
+      = rw (ran .word) (Grammar.DerivesModifierName.keysym s (record { run = run; some = refl })) in
       rw (ran-some l ran, at-byte l (runEnd Class.Keysym l p) k (ran .next), f)
       (keysym d (ran .next) (record { noAt = f; noName = keysym-end k (run .longest) }))
 
@@ -66,8 +66,8 @@ module _ (l : List ℕ) where
   name-run tilde {r} {s} p x y [] k run ran (isnt e) v = rw (ran-some l ran, at-byte l p s x, e) broken
   name-run tilde p x y (b ∷ w) k run ran v is = rw (ran-some l ran, at-byte l (runEnd Class.Name l p) k (ran .next)) broken
   name-run tilde {r} {s} p x y (b ∷ w) k run ran v (isnt f) =
-      let d : Grammar.ModifierName tilde r (Written.Modifier.name tilde (part l p (runEnd Class.Name l p))) k
-      = rw (ran .word) (Grammar.ModifierName.name y (record { run = run; some = refl })) in
+      let d : Grammar.DerivesModifierName tilde r (Written.Modifier.name tilde (part l p (runEnd Class.Name l p))) k
+      = rw (ran .word) (Grammar.DerivesModifierName.name y (record { run = run; some = refl })) in
       rw (ran-some l ran, at-byte l (runEnd Class.Name l p) k (ran .next), f)
       (name d (ran .next) (record { noAt = f; noName = run .longest }))
 
@@ -82,20 +82,20 @@ module _ (l : List ℕ) where
   data ModifierView (r : List ℕ) : ModifierRead → Type 0 where
     broken : ModifierView r ModifierRead.Broken
     end : {m : List ℕ} {n : ℕ} → Sign "<" r m → At l n (code "<" ∷ m) → ModifierView r (ModifierRead.End n)
-    name : {k : List ℕ} {t : Bool} {a b : ℕ} → Grammar.Modifier r (Written.Modifier.name t (part l a b)) k → At l b k → Unjoined k
+    name : {k : List ℕ} {t : Bool} {a b : ℕ} → Grammar.DerivesModifier r (Written.Modifier.name t (part l a b)) k → At l b k → Unjoined k
         → ModifierView r (ModifierRead.Name t a b)
-    keysym : {k : List ℕ} {t : Bool} {a b : ℕ} → Grammar.Modifier r (Written.Modifier.keysym t (part l a b)) k → At l b k → Unjoined k
+    keysym : {k : List ℕ} {t : Bool} {a b : ℕ} → Grammar.DerivesModifier r (Written.Modifier.keysym t (part l a b)) k → At l b k → Unjoined k
         → ModifierView r (ModifierRead.Keysym t a b)
 
   by-plain : {r : List ℕ} {x : ModifierRead} → NamedRead false r x → ModifierView r x
   by-plain broken = broken
-  by-plain (name d x u) = name (Grammar.Modifier.plain d) x u
-  by-plain (keysym d x u) = keysym (Grammar.Modifier.plain d) x u
+  by-plain (name d x u) = name (Grammar.DerivesModifier.plain d) x u
+  by-plain (keysym d x u) = keysym (Grammar.DerivesModifier.plain d) x u
 
   by-tilde : {r k : List ℕ} {x : ModifierRead} → Sign "~" r k → NamedRead true k x → ModifierView r x
   by-tilde s broken = broken
-  by-tilde s (name d x u) = name (Grammar.Modifier.tilde s d) x u
-  by-tilde s (keysym d x u) = keysym (Grammar.Modifier.tilde s d) x u
+  by-tilde s (name d x u) = name (Grammar.DerivesModifier.tilde s d) x u
+  by-tilde s (keysym d x u) = keysym (Grammar.DerivesModifier.tilde s d) x u
 
   modifier-signs :
       {r s : List ℕ} (p : ℕ) → At l p s → Blanks r s → SignView (code "<") s → SignView (code "~") s → ModifierView r (modifierFrom l p)
@@ -128,9 +128,9 @@ module _ (l : List ℕ) where
     got : (p : ℕ) → At l p from → ModifierGot (modifierNameAt tilde l p) m k
 
   named-complete :
-      (tilde : Bool) {r k : List ℕ} {m : Written.Modifier} → eqb (first k) (code "@") ≡ false → Grammar.ModifierName tilde r m k → NameStart tilde r m k
+      (tilde : Bool) {r k : List ℕ} {m : Written.Modifier} → eqb (first k) (code "@") ≡ false → Grammar.DerivesModifierName tilde r m k → NameStart tilde r m k
   unfolding modifierNameAt nameFrom keysymFrom
-  named-complete tilde {r} {k} u (Grammar.ModifierName.name {m = s} {w = w} y word) =
+  named-complete tilde {r} {k} u (Grammar.DerivesModifierName.name {m = s} {w = w} y word) =
       record {
         from = s;
         blanks = y;
@@ -142,7 +142,7 @@ module _ (l : List ℕ) where
             let q : nameFrom tilde l p e ≡ ModifierRead.Name tilde p e = rw (ran-some l ran, word .some, at-byte l e k (ran .next), u) in
             record { next = e; steps = λ rest. rw (q, ran .word); at = ran .next };
       }
-  named-complete tilde {r} {k} u (Grammar.ModifierName.keysym {m = s} {w = w} y word) =
+  named-complete tilde {r} {k} u (Grammar.DerivesModifierName.keysym {m = s} {w = w} y word) =
       record {
         from = code "@" ∷ s;
         blanks = y .before;
@@ -160,14 +160,14 @@ module _ (l : List ℕ) where
       }
 
   modifier-complete :
-      {r k : List ℕ} {m : Written.Modifier} (p : ℕ) → At l p r → eqb (first k) (code "@") ≡ false → Grammar.Modifier r m k
+      {r k : List ℕ} {m : Written.Modifier} (p : ℕ) → At l p r → eqb (first k) (code "@") ≡ false → Grammar.DerivesModifier r m k
       → ModifierGot (modifierAt l p) m k
   unfolding modifierAt modifierFrom
-  modifier-complete {r} {k} p x u (Grammar.Modifier.plain d) =
+  modifier-complete {r} {k} p x u (Grammar.DerivesModifier.plain d) =
       let n = named-complete false u d in
       let x1 = at-skip l p x (n .blanks) in
       rw (at-byte l (skip l p) (n .from) x1, n .noLess, n .noTilde) (n .got (skip l p) x1)
-  modifier-complete {r} {k} p x u (Grammar.Modifier.tilde {k = j} s d) =
+  modifier-complete {r} {k} p x u (Grammar.DerivesModifier.tilde {k = j} s d) =
       let n = named-complete true u d in
       let x1 = at-skip l p x (s .before) in
       let x2 = at-skip l (skip l p + 1) (at-next l (skip l p) (code "~") j x1) (n .blanks) in
@@ -177,39 +177,39 @@ module _ (l : List ℕ) where
 
   pub data ModifiersRead (r : List ℕ) : Written.Modifiers → Type 0 where
     broken : ModifiersRead r Written.Modifiers.broken
-    modifiers : {k m : List ℕ} {ms : List Written.Modifier} {n : ℕ} → Grammar.Modifiers r ms k → Sign "<" k m → At l n (code "<" ∷ m)
+    modifiers : {k m : List ℕ} {ms : List Written.Modifier} {n : ℕ} → Grammar.DerivesModifiers r ms k → Sign "<" k m → At l n (code "<" ∷ m)
         → ModifiersRead r (Written.Modifiers.modifiers ms n)
 
   parts-blank : (b : ℕ) → blank b ≡ true → Grammar.parts b ≡ true
   parts-blank b e = rw e
 
-  parted-name : {tilde : Bool} {r k : List ℕ} {m : Written.Modifier} → Unjoined r → Grammar.ModifierName tilde r m k → begins Grammar.parts r ≡ true
-  parted-name {tilde} {r} u (Grammar.ModifierName.keysym y word) =
+  parted-name : {tilde : Bool} {r k : List ℕ} {m : Written.Modifier} → Unjoined r → Grammar.DerivesModifierName tilde r m k → beginsWith Grammar.parts r ≡ true
+  parted-name {tilde} {r} u (Grammar.DerivesModifierName.keysym y word) =
       past-or-blank Grammar.parts (y .before) parts-blank
       (λ q. let z : true ≡ false = rw q at (u .noAt) in absurd (false≢true (sym z)))
-  parted-name {tilde} {r} u (Grammar.ModifierName.name y word) =
+  parted-name {tilde} {r} u (Grammar.DerivesModifierName.name y word) =
       past-or-blank Grammar.parts y parts-blank
-      (λ q. let z : begins letterOrDigit r ≡ true = rw q (word-begins word) in absurd (false≢true (sym (u .noName) ∙ z)))
+      (λ q. let z : beginsWith letterOrDigit r ≡ true = rw q (word-begins word) in absurd (false≢true (sym (u .noName) ∙ z)))
 
-  parted-one : {r k : List ℕ} {m : Written.Modifier} → Unjoined r → Grammar.Modifier r m k → begins Grammar.parts r ≡ true
-  parted-one u (Grammar.Modifier.plain d) = parted-name u d
-  parted-one u (Grammar.Modifier.tilde s d) = past-or-blank Grammar.parts (s .before) parts-blank (λ q. rw q)
+  parted-one : {r k : List ℕ} {m : Written.Modifier} → Unjoined r → Grammar.DerivesModifier r m k → beginsWith Grammar.parts r ≡ true
+  parted-one u (Grammar.DerivesModifier.plain d) = parted-name u d
+  parted-one u (Grammar.DerivesModifier.tilde s d) = past-or-blank Grammar.parts (s .before) parts-blank (λ q. rw q)
 
-  parted : {r k m : List ℕ} {ms : List Written.Modifier} → Unjoined r → Grammar.Modifiers r ms k → Sign "<" k m → begins Grammar.parts r ≡ true
-  parted u Grammar.Modifiers.none s = past-or-blank Grammar.parts (s .before) parts-blank (λ q. rw q)
-  parted u (Grammar.Modifiers.more d e ds) s = parted-one u d
+  parted : {r k m : List ℕ} {ms : List Written.Modifier} → Unjoined r → Grammar.DerivesModifiers r ms k → Sign "<" k m → beginsWith Grammar.parts r ≡ true
+  parted u Grammar.DerivesModifiers.none s = past-or-blank Grammar.parts (s .before) parts-blank (λ q. rw q)
+  parted u (Grammar.DerivesModifiers.more d e ds) s = parted-one u d
 
   modifiers-more :
-      {r k : List ℕ} {m : Written.Modifier} {x : Written.Modifiers} → Grammar.Modifier r m k → Unjoined k → ModifiersRead k x
+      {r k : List ℕ} {m : Written.Modifier} {x : Written.Modifiers} → Grammar.DerivesModifier r m k → Unjoined k → ModifiersRead k x
       → ModifiersRead r (oneMore m x)
   modifiers-more d u broken = broken
-  modifiers-more d u (modifiers ds s x) = modifiers (Grammar.Modifiers.more d (parted u ds s) ds) s x
+  modifiers-more d u (modifiers ds s x) = modifiers (Grammar.DerivesModifiers.more d (parted u ds s) ds) s x
 
   modifiers-next :
       {r : List ℕ} {x : ModifierRead} (rest : ℕ → Written.Modifiers) → ((n : ℕ) (m : List ℕ) → At l n m → ModifiersRead m (rest n))
       → ModifierView r x → ModifiersRead r (modifiersNext l x rest)
   modifiers-next rest ih broken = broken
-  modifiers-next rest ih (end s x) = modifiers Grammar.Modifiers.none s x
+  modifiers-next rest ih (end s x) = modifiers Grammar.DerivesModifiers.none s x
   modifiers-next rest ih (name {k = k} {b = b} d x u) = modifiers-more d u (ih b k x)
   modifiers-next rest ih (keysym {k = k} {b = b} d x u) = modifiers-more d u (ih b k x)
 
@@ -218,21 +218,21 @@ module _ (l : List ℕ) where
   modifiers-sound zero p r x = broken
   modifiers-sound (suc fuel) p r x = modifiers-next (λ q. modifiersFrom fuel l q) (λ n m y. modifiers-sound fuel n m y) (modifier-sound p x)
 
-  parts-no-at : (r : List ℕ) → begins Grammar.parts r ≡ true → eqb (first r) (code "@") ≡ false
+  parts-no-at : (r : List ℕ) → beginsWith Grammar.parts r ≡ true → eqb (first r) (code "@") ≡ false
   parts-no-at [] e = refl
   parts-no-at (b ∷ r) e = kind-not Grammar.parts (code "@") refl b e
 
-  name-length : {tilde : Bool} {r k : List ℕ} {m : Written.Modifier} → Grammar.ModifierName tilde r m k → length k < length r
-  name-length (Grammar.ModifierName.keysym y word) = omega (arith, sign-length y, word-length word)
-  name-length (Grammar.ModifierName.name y word) = omega (arith, blanks-length y, word-length word)
+  name-length : {tilde : Bool} {r k : List ℕ} {m : Written.Modifier} → Grammar.DerivesModifierName tilde r m k → length k < length r
+  name-length (Grammar.DerivesModifierName.keysym y word) = omega (arith, sign-length y, word-length word)
+  name-length (Grammar.DerivesModifierName.name y word) = omega (arith, blanks-length y, word-length word)
 
-  modifier-length : {r k : List ℕ} {m : Written.Modifier} → Grammar.Modifier r m k → length k < length r
-  modifier-length (Grammar.Modifier.plain d) = name-length d
-  modifier-length (Grammar.Modifier.tilde s d) = omega (arith, sign-length s, name-length d)
+  modifier-length : {r k : List ℕ} {m : Written.Modifier} → Grammar.DerivesModifier r m k → length k < length r
+  modifier-length (Grammar.DerivesModifier.plain d) = name-length d
+  modifier-length (Grammar.DerivesModifier.tilde s d) = omega (arith, sign-length s, name-length d)
 
-  pub modifiers-length : {r k : List ℕ} {ms : List Written.Modifier} → Grammar.Modifiers r ms k → length k ≤ length r
-  modifiers-length Grammar.Modifiers.none = omega arith
-  modifiers-length (Grammar.Modifiers.more d e ds) = omega (arith, modifier-length d, modifiers-length ds)
+  pub modifiers-length : {r k : List ℕ} {ms : List Written.Modifier} → Grammar.DerivesModifiers r ms k → length k ≤ length r
+  modifiers-length Grammar.DerivesModifiers.none = omega arith
+  modifiers-length (Grammar.DerivesModifiers.more d e ds) = omega (arith, modifier-length d, modifiers-length ds)
 
   pub record ModifiersGot (x : Written.Modifiers) (ms : List Written.Modifier) (m : List ℕ) : Type 0 where
     pub next : ℕ
@@ -244,21 +244,21 @@ module _ (l : List ℕ) where
   modifier-end {r} {m} p x s = rw (at-byte l (skip l p) (code "<" ∷ m) (at-skip l p x (s .before)))
 
   pub modifiers-complete :
-      {r k m : List ℕ} {ms : List Written.Modifier} (fuel p : ℕ) → length r < fuel → At l p r → Grammar.Modifiers r ms k → Sign "<" k m
+      {r k m : List ℕ} {ms : List Written.Modifier} (fuel p : ℕ) → length r < fuel → At l p r → Grammar.DerivesModifiers r ms k → Sign "<" k m
       → ModifiersGot (modifiersFrom fuel l p) ms (code "<" ∷ m)
   unfolding modifiersFrom
   modifiers-complete zero p f x d s = absurd (omega arith)
-  modifiers-complete (suc fuel) p f x Grammar.Modifiers.none s =
+  modifiers-complete (suc fuel) p f x Grammar.DerivesModifiers.none s =
       record { next = skip l p; reads = rw (modifier-end p x s); at = at-skip l p x (s .before) }
-  modifiers-complete (suc fuel) p f x (Grammar.Modifiers.more {k = k} d e ds) s =
+  modifiers-complete (suc fuel) p f x (Grammar.DerivesModifiers.more {k = k} d e ds) s =
       let g = modifier-complete p x (parts-no-at k e) d in
       let h = modifiers-complete fuel (g .next) (omega (arith, modifier-length d)) (g .at) ds s in
       record { next = h .next; reads = rw (g .steps (λ q. modifiersFrom fuel l q), h .reads); at = h .at }
 
   -- a modifier, with the `<` after it
   pub one-complete :
-      {r k m : List ℕ} {x : Written.Modifier} (fuel p : ℕ) → length r < fuel → At l p r → Grammar.Modifier r x k → Sign "<" k m
+      {r k m : List ℕ} {x : Written.Modifier} (fuel p : ℕ) → length r < fuel → At l p r → Grammar.DerivesModifier r x k → Sign "<" k m
       → ModifiersGot (modifiersFrom fuel l p) (x ∷ []) (code "<" ∷ m)
   one-complete {r} {k} {m} {x} fuel p f a d s =
       modifiers-complete fuel p f a
-      (Grammar.Modifiers.more d (past-or-blank Grammar.parts (s .before) parts-blank (λ q. rw q)) Grammar.Modifiers.none) s
+      (Grammar.DerivesModifiers.more d (past-or-blank Grammar.parts (s .before) parts-blank (λ q. rw q)) Grammar.DerivesModifiers.none) s

@@ -9,7 +9,7 @@ use Rattle.model.specs.Calls.{WrittenCall}
 use Rattle.model.specs.Lines.{directiveOf}
 use Rattle.model.specs.Compiling.{LineRead}
 use Rattle.model.specs.declared.events.Directive as Model
-use Rattle.grammar.specs.Productions.{Production}
+use Rattle.grammar.specs.Productions.{DerivesProduction}
 use Rattle.grammar.specs.Texts.{Line, Directive, Derived, Lines, TranslationTable}
 use Rattle.grammar.proofs.Places.{run-same}
 use Rattle.grammar.proofs.Productions.{line-complete}
@@ -18,7 +18,7 @@ use Rattle.grammar.proofs.Lines.{directive-complete, directive-no-produ
 -- ---- Lines
 
 pub one-line :
-    {l : List ℕ} {es fs : List WrittenEvent} {cs ds : List WrittenCall} → Production l es cs → Production l fs ds → (es ≡ fs) × (cs ≡ ds)
+    {l : List ℕ} {es fs : List WrittenEvent} {cs ds : List WrittenCall} → DerivesProduction l es cs → DerivesProduction l fs ds → (es ≡ fs) × (cs ≡ ds)
 one-line {l} {es} {fs} {cs} {ds} x y =
     let i : LineRead.production es cs ≡ LineRead.production fs ds = sym (line-complete l x) ∙ line-complete l y in
     let a : es ≡ fs = cc in

@@ -10,12 +10,12 @@ use lib.ListN.{length}
 use borrow.Author.Tests.{eqb-true}
 use Rattle.model.specs.Lists.{all}
 use Rattle.model.specs.Bytes.{isCode, isNewline, runEnd, skip}
-use Rattle.model.specs.Calls.{span, parameterEnd, quotedFrom, unquotedFrom, parameterFrom, parameterAt, Parameters, oneMore, parametersNext, parametersFrom, parametersPast, parametersAt}
+use Rattle.model.specs.Calls.{span, parameterEnd, quotedFrom, unquotedFrom, parameterFrom, parameterAt, Parameters, oneParameterMore, parametersNext, parametersFrom, parametersPast, parametersAt}
 use Rattle.model.specs.declared.scan.Class.{Class}
 use Rattle.model.specs.declared.scan.Span.{Span}
 use Rattle.model.specs.declared.scan.ParameterRead.{ParameterRead}
 use Rattle.grammar.specs.Bytes.{blank, lineByte, quotedByte, unquotedByte}
-use Rattle.grammar.specs.Tokens.{begins, Run, Blanks, Sign}
+use Rattle.grammar.specs.Tokens.{beginsWith, Run, Blanks, Sign}
 use Rattle.grammar.specs.Calls as Grammar
 use Rattle.grammar.proofs.Places.{At, Ran, SignView, is, isnt, view, first, front, past, at-byte, at-past, at-within, at-next, at-run, at-skip, at-all, ran-stands, stands-span, same-quoted, same-unquoted, and-left, run-shorter, blanks-length, sign-length, nor-left, nor-right, or-first, blanks-none, begins-sign}
 
@@ -114,7 +114,7 @@ module _ (l : List ℕ) where
     where
       go : (w : List ℕ) → m ≡ w ++ k → all unquotedByte w ≡ true → eqb (first m) (code "\"") ≡ false
       go [] e a =
-          let i : begins blank k ≡ false = rw e at (y .run .longest) in
+          let i : beginsWith blank k ≡ false = rw e at (y .run .longest) in
           let j : k ≡ code c ∷ n = blanks-none z i in
           rw (e, j) ne
       go (b ∷ w) e a = rw e (unquoted-no-quote b (and-left (unquotedByte b) (all unquotedByte w) a))
@@ -156,7 +156,7 @@ module _ (l : List ℕ) where
     params : {m : List ℕ} {ss : List Span} {n : ℕ} → Grammar.Params l r ss m → At l n m → ParamsRead r (Parameters.parameters ss n)
 
   params-more :
-      {r k m : List ℕ} {s : Span} {x : Parameters} → Grammar.String l r s k → Sign "," k m → ParamsRead m x → ParamsRead r (oneMore s x)
+      {r k m : List ℕ} {s : Span} {x : Parameters} → Grammar.String l r s k → Sign "," k m → ParamsRead m x → ParamsRead r (oneParameterMore s x)
   params-more s c broken = broken
   params-more s c (params d n) = params (Grammar.Params.more s c d) n
 
@@ -210,7 +210,7 @@ module _ (l : List ℕ) where
     bracketed : {m : List ℕ} {ss : List Span} {n : ℕ} → Grammar.Bracketed l r ss m → At l n m → BracketedRead r (Parameters.parameters ss n)
 
   bracketed-present :
-      {r s : List ℕ} {x : Parameters} → Blanks r s → begins (λ b. isCode b ")") s ≡ false → ParamsRead s x → BracketedRead r x
+      {r s : List ℕ} {x : Parameters} → Blanks r s → beginsWith (λ b. isCode b ")") s ≡ false → ParamsRead s x → BracketedRead r x
   bracketed-present y e broken = broken
   bracketed-present y e (params d n) = bracketed (Grammar.Bracketed.present y e d) n
 

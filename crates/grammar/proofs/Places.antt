@@ -14,8 +14,8 @@ use Rattle.model.specs.Bytes.{isBlank, isLetter, isDigit, belongs, leading, run
 use Rattle.model.specs.Calls.{span}
 use Rattle.model.specs.declared.scan.Class.{Class}
 use Rattle.model.specs.declared.scan.Span.{Span}
-use Rattle.grammar.specs.Bytes.{blank, letterOrDigit, keysymByte, digit, detailByte, namechar, unquotedByte, quotedByte, lineByte}
-use Rattle.grammar.specs.Tokens.{begins, Run, isSome, Word, Blanks, Sign, Optional, Stands}
+use Rattle.grammar.specs.Bytes.{blank, letterOrDigit, keysymByte, isDigitSign, detailByte, namechar, unquotedByte, quotedByte, lineByte}
+use Rattle.grammar.specs.Tokens.{beginsWith, Run, isSome, Word, Blanks, Sign, Optional, Stands}
 
 -- ---- Tests
 
@@ -45,11 +45,11 @@ or-first false false e f = sym e
 
 -- ---- Runs of a list
 
-leading-stop : (test : ℕ → Bool) (r : List ℕ) → begins test r ≡ false → leading test r ≡ 0
+leading-stop : (test : ℕ → Bool) (r : List ℕ) → beginsWith test r ≡ false → leading test r ≡ 0
 leading-stop test [] e = refl
 leading-stop test (b ∷ bs) e = rw e
 
-leading-run : (test : ℕ → Bool) (w r : List ℕ) → all test w ≡ true → begins test r ≡ false → leading test (w ++ r) ≡ length w
+leading-run : (test : ℕ → Bool) (w r : List ℕ) → all test w ≡ true → beginsWith test r ≡ false → leading test (w ++ r) ≡ length w
 leading-run test [] r a e = leading-stop test r e
 leading-run test (b ∷ w) r a e = rw (and-left (test b) (all test w) a, leading-run test w r (and-right (test b) (all test w) a) e)
 
@@ -97,7 +97,7 @@ pub same-keysym : Same Class.Keysym keysymByte
 unfolding belongs isLetter isDigit
 same-keysym b = refl
 
-pub same-digit : Same Class.Digit digit
+pub same-digit : Same Class.Digit isDigitSign
 unfolding belongs isDigit
 same-digit b = refl
 
@@ -216,7 +216,7 @@ view c z (b ∷ bs) = go (eqb b c) refl
     go true e = rw (eqb-true b c e) is
     go false e = isnt e
 
-pub begins-sign : (c : ℕ) → eqb 0 c ≡ false → (r : List ℕ) → eqb (first r) c ≡ begins (λ b. eqb b c) r
+pub begins-sign : (c : ℕ) → eqb 0 c ≡ false → (r : List ℕ) → eqb (first r) c ≡ beginsWith (λ b. eqb b c) r
 begins-sign c z [] = z
 begins-sign c z (b ∷ bs) = refl
 
@@ -229,11 +229,11 @@ pub past : (l : List ℕ) → Past l
 past l = let f = front blank l in record { rest = f .rest; blanks = record { blanks = f .word; run = f .run } }
 
 -- a list that does not begin with a blank
-pub no-blanks : (l : List ℕ) → begins blank l ≡ false → Blanks l l
+pub no-blanks : (l : List ℕ) → beginsWith blank l ≡ false → Blanks l l
 no-blanks l e = record { blanks = []; run = record { split = refl; within = refl; longest = e } }
 
 -- all blanks are taken already
-pub blanks-none : {l r : List ℕ} → Blanks l r → begins blank l ≡ false → l ≡ r
+pub blanks-none : {l r : List ℕ} → Blanks l r → beginsWith blank l ≡ false → l ≡ r
 blanks-none {l} {r} x e = go (x .blanks) (x .run .split) (x .run .within)
   where
     go : (w : List ℕ) → l ≡ w ++ r → all blank w ≡ true → l ≡ r
@@ -293,19 +293,19 @@ word-first {kind} {l} {w} {r} x c n = go w (x .run .split) (x .run .within) (x .
     go [] s a e = absurd (false≢true e)
     go (b ∷ w) s a e = rw s (kind-not kind c n b (and-left (kind b) (all kind w) a))
 
-pub word-begins : {kind : ℕ → Bool} {l w r : List ℕ} → Word kind l w r → begins kind l ≡ true
+pub word-begins : {kind : ℕ → Bool} {l w r : List ℕ} → Word kind l w r → beginsWith kind l ≡ true
 word-begins {kind} {l} {w} {r} x = go w (x .run .split) (x .run .within) (x .some)
   where
-    go : (w : List ℕ) → l ≡ w ++ r → all kind w ≡ true → isSome w ≡ true → begins kind l ≡ true
+    go : (w : List ℕ) → l ≡ w ++ r → all kind w ≡ true → isSome w ≡ true → beginsWith kind l ≡ true
     go [] s a e = absurd (false≢true e)
     go (b ∷ w) s a e = rw s (and-left (kind b) (all kind w) a)
 
 -- what holds of the blanks at the front, and of what follows them where there are none, holds
 pub past-or-blank :
-    {l r : List ℕ} (test : ℕ → Bool) → Blanks l r → ((b : ℕ) → blank b ≡ true → test b ≡ true) → (l ≡ r → begins test l ≡ true) → begins test l ≡ true
+    {l r : List ℕ} (test : ℕ → Bool) → Blanks l r → ((b : ℕ) → blank b ≡ true → test b ≡ true) → (l ≡ r → beginsWith test l ≡ true) → beginsWith test l ≡ true
 past-or-blank {l} {r} test x f g = go (x .blanks) (x .run .split) (x .run .within)
   where
-    go : (w : List ℕ) → l ≡ w ++ r → all blank w ≡ true → begins test l ≡ true
+    go : (w : List ℕ) → l ≡ w ++ r → all blank w ≡ true → beginsWith test l ≡ true
     go [] s a = g s
     go (b ∷ w) s a = rw s (f b (and-left (blank b) (all blank w) a))
 

@@ -18,7 +18,7 @@ use Rattle.model.specs.declared.scan.Class.{Class}
 use Rattle.model.specs.declared.scan.ModifierRead.{ModifierRead}
 use Rattle.model.specs.declared.scan.AfterEvent.{AfterEvent}
 use Rattle.grammar.specs.Bytes.{blank, lineByte, letterOrDigit}
-use Rattle.grammar.specs.Tokens.{begins, Run, Blanks, Sign}
+use Rattle.grammar.specs.Tokens.{beginsWith, Run, Blanks, Sign}
 use Rattle.grammar.specs.KeySequences.{Keyseq}
 use Rattle.grammar.specs.Productions as Grammar
 use Rattle.grammar.proofs.Places.{At, SignView, is, isnt, view, first, past, at-start, at-byte, at-next, at-run, at-skip, ran-some, same-blank, same-name, no-blanks, sign-length}
@@ -26,15 +26,15 @@ use Rattle.grammar.proofs.KeySequences.{KeyseqRead, keyseq-sound, keyse
 use Rattle.grammar.proofs.Events.{EventRead, event-sound, EventGot, event-complete, event-length}
 use Rattle.grammar.proofs.Calls.{RhsRead, rhs-sound, rhs-complete}
 
--- bytes with which no event begins
+-- bytes with which no event beginsWith
 pub record Dead (r : List ℕ) : Type 0 where
-  pub noBlank : begins blank r ≡ false
+  pub noBlank : beginsWith blank r ≡ false
   pub noBang : eqb (first r) (code "!") ≡ false
   pub noColon : eqb (first r) (code ":") ≡ false
   pub noLess : eqb (first r) (code "<") ≡ false
   pub noTilde : eqb (first r) (code "~") ≡ false
   pub noAt : eqb (first r) (code "@") ≡ false
-  pub noName : begins letterOrDigit r ≡ false
+  pub noName : beginsWith letterOrDigit r ≡ false
 
 dead-quote : (m : List ℕ) → Dead (code "\"" ∷ m)
 dead-quote m =
@@ -54,7 +54,7 @@ module _ (l : List ℕ) where
   unfolding plainEventAt leadAt
   plain-skip p x = rw (skip-skip p x)
 
-  -- no event begins with such bytes
+  -- no event beginsWith with such bytes
   module _ {r : List ℕ} (d : Dead r) where
     dead-modifier : (p : ℕ) → At l p r → modifierAt l p ≡ ModifierRead.Broken
     unfolding modifierAt modifierFrom modifierNameAt nameFrom
@@ -213,12 +213,12 @@ module _ (l : List ℕ) where
 
   pub data LineView : LineRead → Type 0 where
     broken : LineView LineRead.broken
-    production : {es : List WrittenEvent} {cs : List WrittenCall} → Grammar.Production l es cs → LineView (LineRead.production es cs)
+    production : {es : List WrittenEvent} {cs : List WrittenCall} → Grammar.DerivesProduction l es cs → LineView (LineRead.production es cs)
 
   line-calls :
       {k m : List ℕ} {es : List WrittenEvent} {x : CallsRead} → Grammar.Lhs l es k → Sign ":" k m → RhsRead l m x → LineView (withCalls es x)
   line-calls d s RhsRead.broken = broken
-  line-calls d s (RhsRead.calls c) = production (Grammar.Production.production d s c)
+  line-calls d s (RhsRead.calls c) = production (Grammar.DerivesProduction.production d s c)
 
   line-events : all lineByte l ≡ true → {x : EventsRead} → LhsRead l x → LineView (withEvents l x)
   line-events clean broken = broken
@@ -230,13 +230,13 @@ module _ (l : List ℕ) where
   line-sound clean = line-events clean (lhs-sound (length l + 1) 0 l (at-start l))
 
   -- what is derived from a line is read of it
-  pub line-complete : {es : List WrittenEvent} {cs : List WrittenCall} → Grammar.Production l es cs → lineRead l ≡ LineRead.production es cs
+  pub line-complete : {es : List WrittenEvent} {cs : List WrittenCall} → Grammar.DerivesProduction l es cs → lineRead l ≡ LineRead.production es cs
   unfolding lineRead leftSide
-  line-complete (Grammar.Production.production d s c) =
+  line-complete (Grammar.DerivesProduction.production d s c) =
       let g = lhs-complete (length l + 1) 0 (omega arith) (at-start l) d s in
       rw (g .reads, rhs-complete l (g .next) (g .at) c)
 
-  -- a line that begins, past its blanks, with bytes with which neither an event nor a key sequence begins
+  -- a line that beginsWith, past its blanks, with bytes with which neither an event nor a key sequence beginsWith
   module _ {r : List ℕ} (y : Blanks l r) (d : Dead r) (q : eqb (first r) (code "\"") ≡ false) where
     dead-item : eventsAt l 0 ≡ EventsRead.broken
     unfolding eventsAt eventsFrom

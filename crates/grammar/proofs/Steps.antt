@@ -19,9 +19,9 @@ use Rattle.model.specs.Compiling.{LineOutcome, lineOutcome, passesLimit, Outcom
 use Rattle.model.specs.declared.events.KeptEvent.{KeptEvent}
 use Rattle.model.specs.declared.events.Directive as Model
 use Rattle.grammar.specs.Bytes.{blank}
-use Rattle.grammar.specs.Productions.{Production}
-use Rattle.grammar.specs.Texts.{Line, Directive, Derived, startOf, Lines, TranslationTable}
-use Rattle.grammar.specs.Compiling.{EventsKept, Kept, productionOf, Upto}
+use Rattle.grammar.specs.Productions.{DerivesProduction}
+use Rattle.grammar.specs.Texts.{Line, Directive, Derived, startInText, Lines, TranslationTable}
+use Rattle.grammar.specs.Compiling.{EventsKept, ProductionsKept, productionOf, Upto}
 use Rattle.grammar.proofs.Places.{At, at-start}
 use Rattle.grammar.proofs.Productions.{line-complete}
 use Rattle.grammar.proofs.Kept.{events-kept, passes-less}
@@ -34,7 +34,7 @@ directive-none w n = go (directiveOf w) (directive-view w)
     go o (DirectiveView.absent f) = refl
     go o (DirectiveView.present {d = d} x) = absurd (n d x)
 
-pub production-not-blank : {w : List ℕ} {es : List WrittenEvent} {cs : List WrittenCall} → Production w es cs → all blank w ≡ false
+pub production-not-blank : {w : List ℕ} {es : List WrittenEvent} {cs : List WrittenCall} → DerivesProduction w es cs → all blank w ≡ false
 production-not-blank {w} d = go (all blank w) refl
   where
     go : (t : Bool) → all blank w ≡ t → all blank w ≡ false
@@ -50,14 +50,14 @@ module _ (text : List ℕ) where
 
   pub no-directive :
       {l w : List ℕ} {r : Option (List ℕ)} (p : ℕ) → At text p l → Line l w r
-      → (startOf text l ≡ 0 → (d : Model.Directive) → Directive w d → ⊥) → directiveAt text p ≡ none
+      → (startInText text l ≡ 0 → (d : Model.Directive) → Directive w d → ⊥) → directiveAt text p ≡ none
   unfolding directiveAt
   no-directive {l} {w} p x c n = go (eqb p 0) refl
     where
       go : (t : Bool) → eqb p 0 ≡ t → cond (eqb p 0) (directiveOf (lineAt text 0)) none ≡ none
       go true e =
           let i : p ≡ 0 = eqb-true p 0 e in
-          let j : startOf text l ≡ 0 = sym (at-place text p x) ∙ i in
+          let j : startInText text l ≡ 0 = sym (at-place text p x) ∙ i in
           let k : lineAt text 0 ≡ w = at-line text 0 (rw i at x) c in
           rw (e, k) (directive-none w (n j))
       go false e = rw e
@@ -83,7 +83,7 @@ module _ (text : List ℕ) where
 
   pub line-added :
       {w : List ℕ} {es : List WrittenEvent} {cs : List WrittenCall} {ks : List KeptEvent} (p q : ℕ) (ps : List Tables.Production) → p ≡ q
-      → Production w es cs → EventsKept es ks → passesLimit (ps ++ (productionOf q ks cs ∷ [])) ≡ false
+      → DerivesProduction w es cs → EventsKept es ks → passesLimit (ps ++ (productionOf q ks cs ∷ [])) ≡ false
       → lineOutcome ps p w ≡ LineOutcome.add (productionOf q ks cs)
   unfolding lineOutcome
   line-added {w} p q ps i d k e = rw (i, line-complete w d, events-kept k, e)
@@ -116,23 +116,23 @@ module _ (text : List ℕ) where
   reach-production :
       {l w : List ℕ} {r : Option (List ℕ)} {es : List WrittenEvent} {cs : List WrittenCall} {ks : List KeptEvent}
       (fuel p : ℕ) (d : Model.Directive) (ps : List Tables.Production) (x : Outcome) → At text p l → Line l w r
-      → length l < fuel → x ≡ linesFrom fuel text p d ps → Production w es cs → EventsKept es ks
-      → passesLimit (ps ++ (productionOf (startOf text l) ks cs ∷ [])) ≡ false
-      → Reached d (ps ++ (productionOf (startOf text l) ks cs ∷ [])) x r
+      → length l < fuel → x ≡ linesFrom fuel text p d ps → DerivesProduction w es cs → EventsKept es ks
+      → passesLimit (ps ++ (productionOf (startInText text l) ks cs ∷ [])) ≡ false
+      → Reached d (ps ++ (productionOf (startInText text l) ks cs ∷ [])) x r
   reach-production zero p d ps x a c h q y k e = absurd (omega arith)
   reach-production {l} {w} {r} {es} {cs} {ks} (suc f) p d ps x a c h q y k e =
       let s = step-line f p d ps a c (no-directive p a c (λ z e y2. directive-no-production y2 y)) (production-not-blank y) in
-      let t = line-added p (startOf text l) ps (at-place text p a) y k e in
-      after-line f p d (ps ++ (productionOf (startOf text l) ks cs ∷ [])) x a c h
+      let t = line-added p (startInText text l) ps (at-place text p a) y k e in
+      after-line f p d (ps ++ (productionOf (startInText text l) ks cs ∷ [])) x a c h
       (q ∙ s ∙ ap (λ o. afterLine text p d ps o (onward f)) t)
 
   lines-reach :
       {s t : Option (List ℕ)} {ds : List Derived} {qs : List Tables.Production} (d : Model.Directive) (ps : List Tables.Production) (x : Outcome)
-      → Lines text s ds t → Kept ds qs → passesLimit (ps ++ qs) ≡ false → Reached d ps x s → Reached d (ps ++ qs) x t
-  lines-reach d ps x Lines.done Kept.nothing e g = rw (append-nil ps) g
+      → Lines text s ds t → ProductionsKept ds qs → passesLimit (ps ++ qs) ≡ false → Reached d ps x s → Reached d (ps ++ qs) x t
+  lines-reach d ps x Lines.done ProductionsKept.nothing e g = rw (append-nil ps) g
   lines-reach d ps x (Lines.blanks c b ls) k e (going fuel p a h q) = lines-reach d ps x ls k e (reach-blank fuel p d ps x a c h q b)
-  lines-reach d ps x (Lines.production {l = l} {cs = cs} c y ls) (Kept.more {ks = ks} {ps = qs} k ks2) e (going fuel p a h q) =
-      let this : Tables.Production = productionOf (startOf text l) ks cs in
+  lines-reach d ps x (Lines.production {l = l} {cs = cs} c y ls) (ProductionsKept.more {ks = ks} {ps = qs} k ks2) e (going fuel p a h q) =
+      let this : Tables.Production = productionOf (startInText text l) ks cs in
       let i : ps ++ (this ∷ []) ++ qs ≡ ps ++ this ∷ qs = append-snoc ps this qs in
       let f : passesLimit (ps ++ (this ∷ []) ++ qs) ≡ false = rw i e in
       rw (sym i)
@@ -140,7 +140,7 @@ module _ (text : List ℕ) where
       (reach-production fuel p d ps x a c h q y k (passes-less (ps ++ (this ∷ [])) qs f)))
 
   table-reach :
-      {s : Option (List ℕ)} {d : Model.Directive} {ds : List Derived} {ps : List Tables.Production} → TranslationTable text d ds s → Kept ds ps
+      {s : Option (List ℕ)} {d : Model.Directive} {ds : List Derived} {ps : List Tables.Production} → TranslationTable text d ds s → ProductionsKept ds ps
       → passesLimit ps ≡ false → Reached d ps (linesOf text) s
   table-reach (TranslationTable.plain ls) k e =
       lines-reach Model.Directive.Replace [] (linesOf text) ls k e (going (suc (length text)) 0 (at-start text) (omega arith) first-lines)

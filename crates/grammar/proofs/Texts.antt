@@ -21,9 +21,9 @@ use Rattle.model.specs.declared.events.KeptEvent.{KeptEvent}
 use Rattle.model.specs.declared.events.Directive as Model
 use Rattle.grammar.specs.Bytes.{allowedByte, blank, lineByte}
 use Rattle.grammar.specs.Tokens.{Run}
-use Rattle.grammar.specs.Productions.{Production}
-use Rattle.grammar.specs.Texts.{Line, Directive, Derived, startOf, Lines, TranslationTable}
-use Rattle.grammar.specs.Compiling.{EventsKept, EventsRefused, Kept, productionOf, Upto, Allowed, Compiles}
+use Rattle.grammar.specs.Productions.{DerivesProduction}
+use Rattle.grammar.specs.Texts.{Line, Directive, Derived, startInText, Lines, TranslationTable}
+use Rattle.grammar.specs.Compiling.{EventsKept, EventsRefused, ProductionsKept, productionOf, Upto, Allowed, Compiles}
 use Rattle.grammar.proofs.Places.{At, front, at-start, and-left, and-right}
 use Rattle.grammar.proofs.Productions.{LineView, line-sound, line-complete}
 use Rattle.grammar.proofs.Kept.{events-kept, events-refused, JudgedView, judged-view}
@@ -67,7 +67,7 @@ module _ (text : List ℕ) where
 
   -- ---- What the relation says is what comes of a text
 
-  not-read : (w : List ℕ) → all lineByte w ≡ true → ((es : List WrittenEvent) (cs : List WrittenCall) → Production w es cs → ⊥) → lineRead w ≡ LineRead.broken
+  not-read : (w : List ℕ) → all lineByte w ≡ true → ((es : List WrittenEvent) (cs : List WrittenCall) → DerivesProduction w es cs → ⊥) → lineRead w ≡ LineRead.broken
   not-read w clean n = go (lineRead w) (line-sound w clean)
     where
       go : (x : LineRead) → LineView w x → x ≡ LineRead.broken
@@ -80,12 +80,12 @@ module _ (text : List ℕ) where
   no-line w p d ps f e = rw e
 
   no-event : {w : List ℕ} {es : List WrittenEvent} {cs : List WrittenCall} {n : ℕ} (p : ℕ) (d : Model.Directive) (ps : List Tables.Production) (f : ℕ)
-      → Production w es cs → EventsRefused es n → afterLine text p d ps (lineOutcome ps p w) (onward text f) ≡ refused n p
+      → DerivesProduction w es cs → EventsRefused es n → afterLine text p d ps (lineOutcome ps p w) (onward text f) ≡ refused n p
   unfolding lineOutcome
   no-event {w} p d ps f y r = rw (line-complete w y, events-refused r)
 
   no-room : {w : List ℕ} {es : List WrittenEvent} {cs : List WrittenCall} {ks : List KeptEvent} (p q : ℕ) (d : Model.Directive) (ps : List Tables.Production) (f : ℕ)
-      → p ≡ q → Production w es cs → EventsKept es ks → passesLimit (ps ++ (productionOf q ks cs ∷ [])) ≡ true
+      → p ≡ q → DerivesProduction w es cs → EventsKept es ks → passesLimit (ps ++ (productionOf q ks cs ∷ [])) ≡ true
       → afterLine text p d ps (lineOutcome ps p w) (onward text f) ≡ refused Numbers.pastLimit q
   unfolding lineOutcome
   no-room {w} p q d ps f i y k e = rw (i, line-complete w y, events-kept k, e)
@@ -93,9 +93,9 @@ module _ (text : List ℕ) where
   -- the line at which reading stands is refused
   stops :
       {l w : List ℕ} {r : Option (List ℕ)} {d : Model.Directive} {ps : List Tables.Production} {x : Outcome} (n : ℕ) → Line l w r → all blank w ≡ false
-      → (startOf text l ≡ 0 → (e : Model.Directive) → Directive w e → ⊥)
-      → ((f p : ℕ) → p ≡ startOf text l → afterLine text p d ps (lineOutcome ps p w) (onward text f) ≡ refused n p)
-      → Reached text d ps x (some l) → x ≡ refused n (startOf text l)
+      → (startInText text l ≡ 0 → (e : Model.Directive) → Directive w e → ⊥)
+      → ((f p : ℕ) → p ≡ startInText text l → afterLine text p d ps (lineOutcome ps p w) (onward text f) ≡ refused n p)
+      → Reached text d ps x (some l) → x ≡ refused n (startInText text l)
   stops n c b nd g (Reached.going zero p a h q) = absurd (omega arith)
   stops {l} {w} {r} {d} {ps} {x} n c b nd g (Reached.going (suc f) p a h q) =
       q ∙ step-line text f p d ps a c (no-directive text p a c nd) b ∙ g f p (at-place text p a) ∙ ap (refused n) (at-place text p a)
@@ -116,7 +116,7 @@ module _ (text : List ℕ) where
   complete (Compiles.pastLimit {l = l} {d = d} {ps = ps} al u c y k e) =
       compile-lines al
       ∙ stops Numbers.pastLimit c (production-not-blank y) (λ z e x. directive-no-production x y)
-      (λ f p i. no-room p (startOf text l) d ps f i y k e ∙ ap (refused Numbers.pastLimit) (sym i)) (upto-reach text u)
+      (λ f p i. no-room p (startInText text l) d ps f i y k e ∙ ap (refused Numbers.pastLimit) (sym i)) (upto-reach text u)
   complete (Compiles.accept al u) = compile-lines al ∙ ends (upto-reach text u)
 
   -- ---- What comes of a text is what the relation says
@@ -134,9 +134,9 @@ module _ (text : List ℕ) where
   table-append (TranslationTable.directed c x ls) more = TranslationTable.directed c x (lines-append ls more)
 
   kept-append :
-      {ds es : List Derived} {ps qs : List Tables.Production} → Kept ds ps → Kept es qs → Kept (ds ++ es) (ps ++ qs)
-  kept-append Kept.nothing rest = rest
-  kept-append (Kept.more k ks) rest = Kept.more k (kept-append ks rest)
+      {ds es : List Derived} {ps qs : List Tables.Production} → ProductionsKept ds ps → ProductionsKept es qs → ProductionsKept (ds ++ es) (ps ++ qs)
+  kept-append ProductionsKept.nothing rest = rest
+  kept-append (ProductionsKept.more k ks) rest = ProductionsKept.more k (kept-append ks rest)
 
   upto-blank :
       {l w : List ℕ} {r : Option (List ℕ)} {d : Model.Directive} {ps : List Tables.Production} → Upto text (some l) d ps → Line l w r
@@ -147,14 +147,14 @@ module _ (text : List ℕ) where
 
   upto-production :
       {l w : List ℕ} {r : Option (List ℕ)} {d : Model.Directive} {ps : List Tables.Production} {es : List WrittenEvent} {cs : List WrittenCall}
-      {ks : List KeptEvent} → Upto text (some l) d ps → Line l w r → Production w es cs → EventsKept es ks
-      → passesLimit (ps ++ (productionOf (startOf text l) ks cs ∷ [])) ≡ false
-      → Upto text r d (ps ++ (productionOf (startOf text l) ks cs ∷ []))
+      {ks : List KeptEvent} → Upto text (some l) d ps → Line l w r → DerivesProduction w es cs → EventsKept es ks
+      → passesLimit (ps ++ (productionOf (startInText text l) ks cs ∷ [])) ≡ false
+      → Upto text r d (ps ++ (productionOf (startInText text l) ks cs ∷ []))
   upto-production {l} {w} {r} {d} {ps} {es} {cs} u c y k e =
       record {
-        derived = u .derived ++ (record { start = startOf text l; events = es; calls = cs } ∷ []);
+        derived = u .derived ++ (record { start = startInText text l; events = es; calls = cs } ∷ []);
         table = table-append (u .table) (Lines.production c y Lines.done);
-        kept = kept-append (u .kept) (Kept.more k Kept.nothing);
+        kept = kept-append (u .kept) (ProductionsKept.more k ProductionsKept.nothing);
         limits = e;
       }
 
@@ -175,7 +175,7 @@ module _ (text : List ℕ) where
         (ih (lineEnd text p + 1) r d ps (omega arith) (at-next-line text p a run) (omega (arith, line-shorter run)) u)
 
     none-first :
-        {l w : List ℕ} {r : Option (List ℕ)} (p : ℕ) → At text p l → Line l w r → directiveAt text p ≡ none → startOf text l ≡ 0 → (d : Model.Directive)
+        {l w : List ℕ} {r : Option (List ℕ)} (p : ℕ) → At text p l → Line l w r → directiveAt text p ≡ none → startInText text l ≡ 0 → (d : Model.Directive)
         → Directive w d → ⊥
     unfolding directiveAt
     none-first {l} {w} p a c n z d x =
@@ -189,20 +189,20 @@ module _ (text : List ℕ) where
     module _ {l w : List ℕ} {r : Option (List ℕ)} (f p : ℕ) (d : Model.Directive) (ps : List Tables.Production) (ih : Further f) (a : At text p l)
         (h : length l < suc f) (c : Line l w r) (u : Upto text (some l) d ps) where
       room-sound :
-          {es : List WrittenEvent} {cs : List WrittenCall} {ks : List KeptEvent} → Production w es cs → EventsKept es ks → (t : Bool)
-          → passesLimit (ps ++ (productionOf (startOf text l) ks cs ∷ [])) ≡ t
+          {es : List WrittenEvent} {cs : List WrittenCall} {ks : List KeptEvent} → DerivesProduction w es cs → EventsKept es ks → (t : Bool)
+          → passesLimit (ps ++ (productionOf (startInText text l) ks cs ∷ [])) ≡ t
           → Compiles text (afterLine text p d ps (lineOutcome ps p w) (onward text f))
       room-sound {es} {cs} {ks} y k true e =
-          rw (no-room p (startOf text l) d ps f (at-place text p a) y k e) (Compiles.pastLimit allowed u c y k e)
+          rw (no-room p (startInText text l) d ps f (at-place text p a) y k e) (Compiles.pastLimit allowed u c y k e)
       room-sound {es} {cs} {ks} y k false e =
-          rw (line-added text p (startOf text l) ps (at-place text p a) y k e)
-          (go-on-sound f p d (ps ++ (productionOf (startOf text l) ks cs ∷ [])) ih a h c (upto-production u c y k e))
+          rw (line-added text p (startInText text l) ps (at-place text p a) y k e)
+          (go-on-sound f p d (ps ++ (productionOf (startInText text l) ks cs ∷ [])) ih a h c (upto-production u c y k e))
 
       events-sound :
-          {es : List WrittenEvent} {cs : List WrittenCall} {x : EventsJudged} → Production w es cs → JudgedView es x
+          {es : List WrittenEvent} {cs : List WrittenCall} {x : EventsJudged} → DerivesProduction w es cs → JudgedView es x
           → Compiles text (afterLine text p d ps (lineOutcome ps p w) (onward text f))
       events-sound y (JudgedView.refused q) = rw (no-event p d ps f y q, at-place text p a) (Compiles.refusedEvent allowed u c y q)
-      events-sound {cs = cs} y (JudgedView.kept {ks = ks} k) = room-sound y k (passesLimit (ps ++ (productionOf (startOf text l) ks cs ∷ []))) refl
+      events-sound {cs = cs} y (JudgedView.kept {ks = ks} k) = room-sound y k (passesLimit (ps ++ (productionOf (startInText text l) ks cs ∷ []))) refl
 
       read-sound :
           directiveAt text p ≡ none → all blank w ≡ false → (x : LineRead) → lineRead w ≡ x → LineView w x
@@ -242,7 +242,7 @@ module _ (text : List ℕ) where
     empty-limits = refl
 
     upto-start : Upto text (some text) Model.Directive.Replace []
-    upto-start = record { derived = []; table = TranslationTable.plain Lines.done; kept = Kept.nothing; limits = empty-limits }
+    upto-start = record { derived = []; table = TranslationTable.plain Lines.done; kept = ProductionsKept.nothing; limits = empty-limits }
 
     first-sound :
         (w : List ℕ) (r : Option (List ℕ)) → Line text w r → (o : Option Model.Directive) → directiveOf w ≡ o → DirectiveView w o
@@ -253,7 +253,7 @@ module _ (text : List ℕ) where
     first-sound w r c o q (DirectiveView.present {d = d} x) =
         rw (step-directive text (length text) Model.Directive.Replace [] c x)
         (go-on-sound (length text) 0 d [] (further (length text)) (at-start text) (omega arith) c
-        (record { derived = []; table = TranslationTable.directed c x Lines.done; kept = Kept.nothing; limits = empty-limits }))
+        (record { derived = []; table = TranslationTable.directed c x Lines.done; kept = ProductionsKept.nothing; limits = empty-limits }))
 
     lines-sound : Compiles text (linesOf text)
     lines-sound =

@@ -15,16 +15,16 @@ blank b = isCode b " " || isTab b
 abbrev pub letter : ℕ → Bool
 letter b = inRange (code "A") b (code "Z") || inRange (code "a") b (code "z")
 
-abbrev pub digit : ℕ → Bool
-digit b = inRange (code "0") b (code "9")
+abbrev pub isDigitSign : ℕ → Bool
+isDigitSign b = inRange (code "0") b (code "9")
 
 -- "A modifier name or a type is the longest run of letters and digits"
 abbrev pub letterOrDigit : ℕ → Bool
-letterOrDigit b = letter b || digit b
+letterOrDigit b = letter b || isDigitSign b
 
 -- "`@` with a run of letters, digits or `_` directly after it"
 abbrev pub keysymByte : ℕ → Bool
-keysymByte b = letter b || digit b || isCode b "_"
+keysymByte b = letter b || isDigitSign b || isCode b "_"
 
 -- "A detail is the longest run without blank, comma, colon or newline."
 abbrev pub detailByte : ℕ → Bool
@@ -32,7 +32,7 @@ detailByte b = not (blank b || isCode b "," || isCode b ":" || isNewline b)
 
 -- namechar = { "a"-"z" | "A"-"Z" | "0"-"9" | "_" | "-" }
 abbrev pub namechar : ℕ → Bool
-namechar b = letter b || digit b || isCode b "_" || isCode b "-"
+namechar b = letter b || isDigitSign b || isCode b "_" || isCode b "-"
 
 -- <Latin 1 character except space, tab, ",", newline, ")">, and not the quote: "an unquoted one may not hold blank, comma, quote or `)`"
 abbrev pub unquotedByte : ℕ → Bool

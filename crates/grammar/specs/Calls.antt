@@ -8,7 +8,7 @@ use Rattle.model.specs.Bytes.{isCode}
 use Rattle.model.specs.Calls.{WrittenCall}
 use Rattle.model.specs.declared.scan.Span.{Span}
 use Rattle.grammar.specs.Bytes.{namechar, quotedByte, unquotedByte}
-use Rattle.grammar.specs.Tokens.{begins, Run, Word, Blanks, Sign, Stands}
+use Rattle.grammar.specs.Tokens.{beginsWith, Run, Word, Blanks, Sign, Stands}
 
 -- in a line: what is derived of a name or a parameter is its place there, the parameter's without quotes
 module _ (line : List ℕ) where
@@ -33,7 +33,7 @@ module _ (line : List ℕ) where
     -- "`f()` has no parameter"
     absent : {l r : List ℕ} → Sign ")" l r → Bracketed l [] r
     -- "`f("")` one, `f(,)` two empty ones": no bracket directly closes
-    present : {l m r : List ℕ} {ss : List Span} → Blanks l m → begins (λ b. isCode b ")") m ≡ false → Params m ss r → Bracketed l ss r
+    present : {l m r : List ℕ} {ss : List Span} → Blanks l m → beginsWith (λ b. isCode b ")") m ≡ false → Params m ss r → Bracketed l ss r
 
   -- name "("
   pub data Name : List ℕ → Span → List ℕ → Type 0 where

@@ -18,8 +18,8 @@ use Rattle.model.specs.declared.events.Directive as Model
 use Rattle.model.specs.declared.answers.Judged.{Judged}
 use Rattle.grammar.specs.Bytes.{allowedByte, blank}
 use Rattle.grammar.specs.Tokens.{Run}
-use Rattle.grammar.specs.Productions.{Production}
-use Rattle.grammar.specs.Texts.{Line, Directive, Derived, startOf, TranslationTable}
+use Rattle.grammar.specs.Productions.{DerivesProduction}
+use Rattle.grammar.specs.Texts.{Line, Directive, Derived, startInText, TranslationTable}
 
 -- ---- Events: "event by event 5, 6, 10, 7, 9, 8"
 
@@ -42,10 +42,10 @@ abbrev pub productionOf : ℕ → List KeptEvent → List WrittenCall → Tables
 productionOf start ks cs = record { events = ks; calls = map (callOf start) cs }
 
 -- the productions of what is derived, where every event is kept
-pub data Kept : List Derived → List Tables.Production → Type 0 where
-  nothing : Kept [] []
-  more : {d : Derived} {ds : List Derived} {ks : List KeptEvent} {ps : List Tables.Production} → EventsKept (d .events) ks → Kept ds ps
-      → Kept (d ∷ ds) (productionOf (d .start) ks (d .calls) ∷ ps)
+pub data ProductionsKept : List Derived → List Tables.Production → Type 0 where
+  nothing : ProductionsKept [] []
+  more : {d : Derived} {ds : List Derived} {ks : List KeptEvent} {ps : List Tables.Production} → EventsKept (d .events) ks → ProductionsKept ds ps
+      → ProductionsKept (d ∷ ds) (productionOf (d .start) ks (d .calls) ∷ ps)
 
 -- ---- A text
 
@@ -54,14 +54,14 @@ module _ (text : List ℕ) where
   pub record Upto (s : Option (List ℕ)) (d : Model.Directive) (ps : List Tables.Production) : Type 0 where
     pub derived : List Derived
     pub table : TranslationTable text d derived s
-    pub kept : Kept derived ps
+    pub kept : ProductionsKept derived ps
     pub limits : passesLimit ps ≡ false
 
   -- the line w, with which the text's end l begins, is not in the grammar
   pub record NotDerived (l w : List ℕ) : Type 0 where
     pub notBlank : all blank w ≡ false
-    pub notProduction : (es : List WrittenEvent) (cs : List WrittenCall) → Production w es cs → ⊥
-    pub notDirective : startOf text l ≡ 0 → (d : Model.Directive) → Directive w d → ⊥
+    pub notProduction : (es : List WrittenEvent) (cs : List WrittenCall) → DerivesProduction w es cs → ⊥
+    pub notDirective : startInText text l ≡ 0 → (d : Model.Directive) → Directive w d → ⊥
 
   -- neither 2 nor 3
   pub record Allowed : Type 0 where
@@ -77,15 +77,15 @@ module _ (text : List ℕ) where
     badByte : {w r : List ℕ} {b : ℕ} → length text ≤ textLimit → Run allowedByte text w (b ∷ r) → Compiles (refused Numbers.badByte (length w))
     -- 4: line not in the grammar
     notGrammar : {l w : List ℕ} {r : Option (List ℕ)} {d : Model.Directive} {ps : List Tables.Production}
-        → Allowed → Upto (some l) d ps → Line l w r → NotDerived l w → Compiles (refused Numbers.notGrammar (startOf text l))
+        → Allowed → Upto (some l) d ps → Line l w r → NotDerived l w → Compiles (refused Numbers.notGrammar (startInText text l))
     -- 5..10
     refusedEvent : {l w : List ℕ} {r : Option (List ℕ)} {d : Model.Directive} {ps : List Tables.Production}
         {es : List WrittenEvent} {cs : List WrittenCall} {n : ℕ}
-        → Allowed → Upto (some l) d ps → Line l w r → Production w es cs → EventsRefused es n → Compiles (refused n (startOf text l))
+        → Allowed → Upto (some l) d ps → Line l w r → DerivesProduction w es cs → EventsRefused es n → Compiles (refused n (startInText text l))
     -- 11: a limit passed
     pastLimit : {l w : List ℕ} {r : Option (List ℕ)} {d : Model.Directive} {ps : List Tables.Production}
         {es : List WrittenEvent} {cs : List WrittenCall} {ks : List KeptEvent}
-        → Allowed → Upto (some l) d ps → Line l w r → Production w es cs → EventsKept es ks
-        → passesLimit (ps ++ (productionOf (startOf text l) ks cs ∷ [])) ≡ true → Compiles (refused Numbers.pastLimit (startOf text l))
+        → Allowed → Upto (some l) d ps → Line l w r → DerivesProduction w es cs → EventsKept es ks
+        → passesLimit (ps ++ (productionOf (startInText text l) ks cs ∷ [])) ≡ true → Compiles (refused Numbers.pastLimit (startInText text l))
     -- 0: accepted
     accept : {d : Model.Directive} {ps : List Tables.Production} → Allowed → Upto none d ps → Compiles (accepted (tableOf text d ps))

@@ -16,8 +16,8 @@ use Rattle.model.specs.declared.scan.Span.{Span}
 use Rattle.model.specs.declared.events.Directive as Model
 use Rattle.grammar.specs.Bytes.{lineByte}
 use Rattle.grammar.specs.Tokens.{Stands}
-use Rattle.grammar.specs.Productions.{Production}
-use Rattle.grammar.specs.Texts.{Line, Derived, startOf, TranslationTable}
+use Rattle.grammar.specs.Productions.{DerivesProduction}
+use Rattle.grammar.specs.Texts.{Line, Derived, startInText, TranslationTable}
 use Rattle.grammar.specs.Compiling.{Allowed, Upto, NotDerived, Compiles}
 
 -- the table t is what the text comes to: at most 8,192 allowed bytes, every line derived, every event kept, no limit passed
@@ -39,14 +39,14 @@ pub record FirstNotDerived (text : List ℕ) (place : ℕ) : Type 0 where
   pub after : Option (List ℕ)
   pub cut : Line rest line after
   pub notDerived : NotDerived text rest line
-  pub starts : place ≡ startOf text rest
+  pub starts : place ≡ startInText text rest
 
 pub record Exact : Type 0 where
   -- a line, which has no newline, is read as a production exactly where the grammar derives it
   pub line : (l : List ℕ) → all lineByte l ≡ true → (es : List WrittenEvent) (cs : List WrittenCall)
-      → (lineRead l ≡ LineRead.production es cs) ↔ Production l es cs
+      → (lineRead l ≡ LineRead.production es cs) ↔ DerivesProduction l es cs
   -- one reading of a line
-  pub oneLine : (l : List ℕ) (es fs : List WrittenEvent) (cs ds : List WrittenCall) → Production l es cs → Production l fs ds
+  pub oneLine : (l : List ℕ) (es fs : List WrittenEvent) (cs ds : List WrittenCall) → DerivesProduction l es cs → DerivesProduction l fs ds
       → (es ≡ fs) × (cs ≡ ds)
   -- one reading of a text
   pub oneText : (text : List ℕ) (d e : Model.Directive) (ds es : List Derived) → TranslationTable text d ds none → TranslationTable text e es none

@@ -5,11 +5,11 @@ use mathlib.Core.List.{List, [], _∷_}
 use Rattle.model.specs.Lists.{bytes}
 use Rattle.model.specs.Events.{WrittenEvent}
 use Rattle.model.specs.Calls.{WrittenCall}
-use Rattle.grammar.specs.Productions.{Production}
+use Rattle.grammar.specs.Productions.{DerivesProduction}
 
 -- the grammar derives something from a line
 abbrev pub Derivable : List ℕ → Type 0
-Derivable l = (es : List WrittenEvent) × (cs : List WrittenCall) × Production l es cs
+Derivable l = (es : List WrittenEvent) × (cs : List WrittenCall) × DerivesProduction l es cs
 
 abbrev pub Every : (List ℕ → Type 0) → List String → Type 0
 Every P [] = Unit {0}

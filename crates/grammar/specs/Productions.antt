@@ -5,13 +5,13 @@ use Rattle.model.specs.Events.{Written, WrittenEvent}
 use Rattle.model.specs.Calls.{WrittenCall}
 use Rattle.grammar.specs.Tokens.{Sign}
 use Rattle.grammar.specs.KeySequences.{Keyseq}
-use Rattle.grammar.specs.Events.{Event}
+use Rattle.grammar.specs.Events.{DerivesEvent}
 use Rattle.grammar.specs.Calls.{Rhs}
 
 -- event | keyseq
 pub data Item : List ℕ → List WrittenEvent → List ℕ → Type 0 where
   -- event
-  event : {l r : List ℕ} {e : Written} → Event l e r → Item l (WrittenEvent.event e ∷ []) r
+  event : {l r : List ℕ} {e : Written} → DerivesEvent l e r → Item l (WrittenEvent.event e ∷ []) r
   -- keyseq
   keyseq : {l r : List ℕ} {ks : List WrittenEvent} → Keyseq l ks r → Item l ks r
 
@@ -23,6 +23,6 @@ pub data Lhs : List ℕ → List WrittenEvent → List ℕ → Type 0 where
   more : {l k m r : List ℕ} {es fs : List WrittenEvent} → Item l es k → Sign "," k m → Lhs m fs r → Lhs l (es ++ fs) r
 
 -- production = lhs ":" rhs "\n"; the newline is no part of the line
-pub data Production : List ℕ → List WrittenEvent → List WrittenCall → Type 0 where
+pub data DerivesProduction : List ℕ → List WrittenEvent → List WrittenCall → Type 0 where
   -- "A production is events parted by commas, a colon, then zero or more calls."
-  production : {l k m : List ℕ} {es : List WrittenEvent} {cs : List WrittenCall} → Lhs l es k → Sign ":" k m → Rhs l m cs → Production l es cs
+  production : {l k m : List ℕ} {es : List WrittenEvent} {cs : List WrittenCall} → Lhs l es k → Sign ":" k m → Rhs l m cs → DerivesProduction l es cs

@@ -11,7 +11,7 @@ use Rattle.model.specs.Calls.{WrittenCall}
 use Rattle.model.specs.declared.events.Directive as Model
 use Rattle.grammar.specs.Bytes.{blank, lineByte}
 use Rattle.grammar.specs.Tokens.{Run}
-use Rattle.grammar.specs.Productions.{Production}
+use Rattle.grammar.specs.Productions.{DerivesProduction}
 
 -- "A line ends at a newline or at the end of the text.": l is the line w, its newline and then r; none where the text ends with w.
 -- So the newline of `directive` and of `production` is this one, and the last line may lack it.
@@ -39,8 +39,8 @@ pub record Derived : Type 0 where
 
 module _ (text : List ℕ) where
   -- where the text's end l begins
-  abbrev pub startOf : List ℕ → ℕ
-  startOf l = length text - length l
+  abbrev pub startInText : List ℕ → ℕ
+  startInText l = length text - length l
 
   -- { production }: the lines from l on, up to s; none stands for the end of the text
   pub data Lines : Option (List ℕ) → List Derived → Option (List ℕ) → Type 0 where
@@ -50,8 +50,8 @@ module _ (text : List ℕ) where
     blanks : {l w : List ℕ} {r s : Option (List ℕ)} {ds : List Derived} → Line l w r → all blank w ≡ true → Lines r ds s → Lines (some l) ds s
     -- production and what follows
     production : {l w : List ℕ} {r s : Option (List ℕ)} {es : List WrittenEvent} {cs : List WrittenCall} {ds : List Derived}
-        → Line l w r → Production w es cs → Lines r ds s
-        → Lines (some l) (record { start = startOf l; events = es; calls = cs } ∷ ds) s
+        → Line l w r → DerivesProduction w es cs → Lines r ds s
+        → Lines (some l) (record { start = startInText l; events = es; calls = cs } ∷ ds) s
 
   -- translationTable = [ directive ] { production }, up to s; the whole text where s is none
   pub data TranslationTable : Model.Directive → List Derived → Option (List ℕ) → Type 0 where

@@ -14,15 +14,15 @@ use Rattle.grammar.specs.Bytes.{blank}
 -- ---- Runs
 
 -- the first byte passes the test; no bytes have no first
-abbrev pub begins : (ℕ → Bool) → List ℕ → Bool
-begins test [] = false
-begins test (b ∷ bs) = test b
+abbrev pub beginsWith : (ℕ → Bool) → List ℕ → Bool
+beginsWith test [] = false
+beginsWith test (b ∷ bs) = test b
 
 -- l is w and then r, and w is the longest run of bytes of a kind that stands there
 pub record Run (kind : ℕ → Bool) (l w r : List ℕ) : Type 0 where
   pub split : l ≡ w ++ r
   pub within : all kind w ≡ true
-  pub longest : begins kind r ≡ false
+  pub longest : beginsWith kind r ≡ false
 
 abbrev pub isSome : {A : Type 0} → List A → Bool
 isSome [] = false
@@ -52,7 +52,7 @@ pub data Optional (c : Char) : List ℕ → Bool → List ℕ → Type 0 where
 
 -- ---- Places
 
--- the bytes w, with which the line's end m begins, stand at s in the line: after all that stands before m
+-- the bytes w, with which the line's end m beginsWith, stand at s in the line: after all that stands before m
 pub record Stands (line m w : List ℕ) (s : Span) : Type 0 where
   pub before : List ℕ
   pub split : line ≡ before ++ m

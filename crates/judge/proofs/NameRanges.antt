@@ -12,7 +12,7 @@ use Rattle.model.specs.Lists.{all, bytes, same}
 use Rattle.model.specs.Limits.{keysymLimit, smallDetailLimit}
 use Rattle.model.specs.Bytes.{inRange, byteAt, isDigit, isCode}
 use Rattle.model.specs.Codes.{isKey, isButton, motionNotify, hasMode, mappingNotify, hasAtom}
-use Rattle.model.specs.Names.{Entry, named, modifierEntries, modifierNamed, protocolEntries, synonymEntries, abbreviationEntries, typeEntries, typeNamed}
+use Rattle.model.specs.Names.{Entry, firstMeaning, modifierEntries, modifierNamed, protocolEntries, synonymEntries, abbreviationEntries, typeEntries, typeNamed}
 use Rattle.model.specs.Details.{digitsFrom, withinLimit, numberIn, startsHexadecimal, keysymEntries, keyDetail, buttonEntries, motionEntries, modeEntries, requestEntries, leadingZero, smallNumber, nameOrNumber, detailNamed}
 use Rattle.model.specs.declared.events.Detail.{Detail}
 use Rattle.model.specs.declared.names.Added.{Added}
@@ -31,10 +31,10 @@ module _ {A : Type 0} (passes : A → Bool) where
 
   -- what a name stands for passes if every entry does
   named-passes : (es : List (Entry A)) (other : A) (word : List ℕ) → passes other ≡ true
-      → all (λ (e : Entry A). passes (e .meaning)) es ≡ true → passes (named es other word) ≡ true
+      → all (λ (e : Entry A). passes (e .meaning)) es ≡ true → passes (firstMeaning es other word) ≡ true
   named-passes [] other word o e = o
   named-passes (x ∷ es) other word o e =
-      cond-passes (same word (bytes (x .name))) (x .meaning) (named es other word)
+      cond-passes (same word (bytes (x .name))) (x .meaning) (firstMeaning es other word)
       (both-left (passes (x .meaning)) (all (λ (y : Entry A). passes (y .meaning)) es) e)
       (named-passes es other word o (both-right (passes (x .meaning)) (all (λ (y : Entry A). passes (y .meaning)) es) e))
 
@@ -52,7 +52,7 @@ names-pass = refl
 pub name-in : (word : List ℕ) → NameIn (modifierNamed word)
 unfolding modifierNamed
 name-in word =
-    go (named modifierEntries ModifierName.Unknown word)
+    go (firstMeaning modifierEntries ModifierName.Unknown word)
     (named-passes namePasses modifierEntries ModifierName.Unknown word refl names-pass)
   where
     go : (n : ModifierName) → namePasses n ≡ true → NameIn n
@@ -129,7 +129,7 @@ number-passes base limit (b ∷ bs) h = limit-passes limit h (digitsFrom base 0 
 
 value-passes : (es : List (Entry DetailRead)) (word : List ℕ)
     → all (λ (e : Entry DetailRead). readPasses (e .meaning)) es ≡ true
-    → readPasses (named es DetailRead.Unknown word) ≡ true
+    → readPasses (firstMeaning es DetailRead.Unknown word) ≡ true
 value-passes es word e = named-passes readPasses es DetailRead.Unknown word refl e
 
 keysyms-pass : all (λ (e : Entry DetailRead). readPasses (e .meaning)) keysymEntries ≡ true

@@ -19,7 +19,7 @@ use Rattle.judge.specs.declared.lists.ListSummary.{ListSummary}
 use Rattle.judge.specs.declared.events.CountSummary.{CountSummary}
 use Rattle.judge.specs.declared.events.DetailSummary.{DetailSummary}
 use Rattle.judge.specs.Summary.{summaryOf, setOf, clearOf, clauseOf}
-use Rattle.judge.specs.Judged.{countSummary, detailSummary, hasStandard, colonMisplaced, keptParts, partsNumber, judgedParts, judgedBy}
+use Rattle.judge.specs.Judged.{countSummary, detailSummary, hasStandardBits, colonMisplaced, keptParts, partsNumber, judgedParts, judgedBy}
 
 module _ (list : ModifierList) where
   set-bit : (k : ℕ) → k < 13 → bit k (mask (listsSet list)) ≡ listsSet list k
@@ -91,7 +91,7 @@ module _ (w : Written) (ty : EventType) where
       }
 
   colon-same : colonMisplaced (summaryOf (w .list)) ty ≡ isColonMisplaced w ty
-  unfolding colonMisplaced summaryOf hasStandard
+  unfolding colonMisplaced summaryOf hasStandardBits
   colon-same =
       ap₂ (λ (a b : Bool). hasColon (w .list) && (not (isKey (ty .code)) || (a || b || addsBit (ty .added) shiftBit)))
       (has-bit (w .list) shiftBit (lit< tt)) (has-bit (w .list) lockBit (lit< tt))

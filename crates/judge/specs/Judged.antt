@@ -1,6 +1,6 @@
 -- An event judged by the values of its modifier list, count and detail, the same as model's `judgedAs` (proofs/Same).
 use Prim.Native.Nat.{ℕ}
-use mathlib.Core.Bool.{Bool, true, false, cond, not, _&&_, _||_}
+use mathlib.Core.Bool.{Bool, cond, not, _&&_, _||_}
 use mathlib.Core.List.{List}
 use mathlib.Core.Option.{Option, none, some}
 use Rattle.model.specs.Numbers.{eventOrder}
@@ -52,14 +52,14 @@ detailSummary ty word =
 -- ---- The checks
 
 -- Shift or Lock is listed, with `~` or without
-unfoldable pub hasStandard : ℕ → ℕ → Bool
-hasStandard set clear =
+unfoldable pub hasStandardBits : ℕ → ℕ → Bool
+hasStandardBits set clear =
     (bit shiftBit set || bit shiftBit clear) || (bit lockBit set || bit lockBit clear)
 
 -- number 9
 unfoldable pub colonMisplaced : ListSummary → EventType → Bool
 colonMisplaced s ty =
-    s .colon && (not (isKey (ty .code)) || (hasStandard (s .set) (s .clear) || addsBit (ty .added) shiftBit))
+    s .colon && (not (isKey (ty .code)) || (hasStandardBits (s .set) (s .clear) || addsBit (ty .added) shiftBit))
 
 unfoldable pub keptParts : ListSummary → EventType → CountSummary → DetailSummary → KeptEvent
 keptParts s ty c d =

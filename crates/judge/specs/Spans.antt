@@ -8,8 +8,8 @@ use Rattle.scanner.specs.declared.events.CountSpan.{CountSpan}
 use Rattle.scanner.specs.declared.events.EventSpans.{EventSpans}
 
 -- `None` or `Any`
-abbrev pub loneList : Bool → ModifierList
-loneList none = cond none noModifier anyModifier
+abbrev pub loneListOf : Bool → ModifierList
+loneListOf none = cond none noModifier anyModifier
 
 -- the event of the model
 abbrev pub writtenIn : List ℕ → EventSpans → Written

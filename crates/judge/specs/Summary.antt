@@ -1,6 +1,6 @@
 -- A modifier list as one value: all that judging an event needs of it.
 use Prim.Native.Nat.{ℕ, _<_}
-use mathlib.Core.Bool.{Bool, true, false, cond, not, _&&_, _||_}
+use mathlib.Core.Bool.{Bool, true, false, not, _&&_, _||_}
 use Rattle.model.specs.Lists.{any}
 use Rattle.model.specs.Modifiers.{bit, mask, buttonBits, isShiftOrLock, listsSet, listsClear, asksOthersClear, hasColon, isWritten, addsBit, addsClause}
 use Rattle.model.specs.Events.{ModifierList}

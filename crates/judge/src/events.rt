@@ -20,7 +20,7 @@ ghost use Rattle.model.specs.Names.{shiftBit};
 ghost use Rattle.model.specs.Judging.{isOneDigit, addsMeta, keyPressOf, judgedMark};
 ghost use Rattle.model.specs.declared.names.Added.{Added};
 ghost use Rattle.judge.specs.Summary.{SummaryIn, AddedIn};
-ghost use Rattle.judge.specs.Judged.{countOf, countSummary, readSummary, detailSummary, hasStandard, colonMisplaced, judgedParts, judgedBy};
+ghost use Rattle.judge.specs.Judged.{countOf, countSummary, readSummary, detailSummary, hasStandardBits, colonMisplaced, judgedParts, judgedBy};
 
 // A written count, or none.
 pub struct CountSummary {
@@ -215,7 +215,7 @@ pub fn detail_of(ty: EventType, word: &[u8]) -> DetailSummary
 
 // Whether Shift or Lock is listed, with `~` or without.
 fn lists_standard(set: u16, clear: u16) -> bool
-    ensures { λ r. ⌜ r ≡ hasStandard set clear ⌝ }
+    ensures { λ r. ⌜ r ≡ hasStandardBits set clear ⌝ }
 {
     let shift_set = modifiers::bit(0, set);
     let shift_clear = modifiers::bit(0, clear);

@@ -24,7 +24,7 @@ ghost use Rattle.scanner.specs.ModifierLists.{modifiersIn};
 ghost use Rattle.scanner.specs.Spans.{listIn, countIn};
 ghost use Rattle.judge.specs.Summary.{summaryOf};
 ghost use Rattle.judge.specs.Judged.{countSummary};
-ghost use Rattle.judge.specs.Spans.{loneList, writtenIn, CountSpanIn, SpansIn};
+ghost use Rattle.judge.specs.Spans.{loneListOf, writtenIn, CountSpanIn, SpansIn};
 
 // A list with `!` or `:` and no modifier yet.
 pub fn led(bang: bool, colon: bool) -> ListSummary
@@ -43,7 +43,7 @@ pub fn led(bang: bool, colon: bool) -> ListSummary
 
 // `None`, which asks every bit to be clear, or `Any`.
 pub fn alone(none: bool) -> ListSummary
-    ensures { λ r. ⌜ r ≡ summaryOf (loneList none) ⌝ }
+    ensures { λ r. ⌜ r ≡ summaryOf (loneListOf none) ⌝ }
 {
     ListSummary {
         written: true,

@@ -10,7 +10,7 @@ use Rattle.model.specs.Bytes.{byteAt, signAt, isTab}
 use Rattle.model.specs.Tables.{Production}
 use Rattle.model.specs.Events.{KeyChar, WrittenEvent, EventsRead, events, markedKey, keyAt, oneMoreKey, keysNext, keysFrom, eventsAt, afterEventAt, joinEvents, afterEvents, leftNext, leftFrom, leftSide}
 use Rattle.model.specs.Calls.{WrittenCall, CallsRead, calls, rightSide}
-use Rattle.model.specs.Compiling.{passesLimit, withCalls, withEvents, lineRead, EventsJudged, keep, judgedAll, LineOutcome, add, counted, lineJudged, lineFrom, lineOutcome}
+use Rattle.model.specs.Compiling.{passesLimit, withCalls, withEvents, lineRead, EventsJudged, keep, judgedAll, LineOutcome, add, withinLimits, lineJudged, lineFrom, lineOutcome}
 use Rattle.model.specs.declared.scan.KeyMark.{KeyMark}
 use Rattle.model.specs.declared.scan.KeyRead.{KeyRead}
 use Rattle.model.specs.declared.scan.AfterEvent.{AfterEvent}
@@ -111,7 +111,7 @@ module _ (ps : List Production) (base n : ℕ) where
   abbrev Right : LineOutcome → Type 0
   Right o = Added Passes (ProductionIn base (base + n)) ps o
 
-  counted-in : (p : Production) → ProductionIn base (base + n) p → Right (counted ps p)
+  counted-in : (p : Production) → ProductionIn base (base + n) p → Right (withinLimits ps p)
   counted-in p h = cond-in Right (passesLimit (ps ++ (p ∷ []))) (λ e. tt) (λ e. (e, h))
 
   judged-in : (m : ℕ) (j : EventsJudged) (cs : List WrittenCall) → 1 ≤ m → JudgedIn m j → CallsWithin n (calls cs)

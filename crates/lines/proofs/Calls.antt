@@ -5,7 +5,7 @@ use mathlib.Core.Path.{refl}
 use mathlib.Core.List.{List, [], _∷_, map}
 use lib.ListN.{length}
 use Rattle.model.specs.Bytes.{skip, signAt}
-use Rattle.model.specs.Calls.{WrittenCall, span, Parameters, parameters, oneMore, parameterAt, parametersNext, parametersFrom, parametersPast, parametersAt, callAt, CallsRead, calls, oneMoreCall, withParameters, callsNext, callsFrom, rightSide}
+use Rattle.model.specs.Calls.{WrittenCall, span, Parameters, parameters, oneParameterMore, parameterAt, parametersNext, parametersFrom, parametersPast, parametersAt, callAt, CallsRead, calls, oneMoreCall, withParameters, callsNext, callsFrom, rightSide}
 use Rattle.model.specs.Compiling.{inText, callOf}
 use Rattle.model.specs.declared.scan.Span.{Span}
 use Rattle.model.specs.declared.scan.CallRead.{CallRead}
@@ -34,7 +34,7 @@ abbrev pub CallsWithin : ℕ → CallsRead → Type 0
 CallsWithin n CallsRead.broken = Unit
 CallsWithin n (calls cs) = CallsWithinAll n cs
 
-one-more : (n : ℕ) (s : Span) (r : Parameters) → s .start + s .len ≤ n → ParametersWithin n r → ParametersWithin n (oneMore s r)
+one-more : (n : ℕ) (s : Span) (r : Parameters) → s .start + s .len ≤ n → ParametersWithin n r → ParametersWithin n (oneParameterMore s r)
 one-more n s Parameters.broken h k = tt
 one-more n s (parameters ss next) h k = (h, k)
 

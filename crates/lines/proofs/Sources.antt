@@ -14,14 +14,14 @@ use Rattle.model.specs.Tables.{Call, Production}
 use Rattle.model.specs.Counts.{sequence}
 use Rattle.model.specs.Events.{WrittenEvent, EventsRead, events, leftSide}
 use Rattle.model.specs.Calls.{WrittenCall, CallsRead, calls, rightSide}
-use Rattle.model.specs.Compiling.{productionPasses, totalsPass, passesLimit, withCalls, withEvents, lineRead, EventsJudged, keep, judgedAll, callOf, LineOutcome, add, counted, lineJudged, lineFrom, lineOutcome}
+use Rattle.model.specs.Compiling.{productionPasses, totalsPass, passesLimit, withCalls, withEvents, lineRead, EventsJudged, keep, judgedAll, callOf, LineOutcome, add, withinLimits, lineJudged, lineFrom, lineOutcome}
 use Rattle.scanner.specs.Sides.{leftOf}
 use Rattle.scanner.proofs.Left.{LeftIn, left-in}
 use Rattle.judge.proofs.Listed.{any-last}
 use Rattle.lines.specs.declared.totals.Line.{Line}
 use Rattle.lines.specs.declared.line.LineJudged.{LineJudged}
-use Rattle.lines.specs.Totals.{totalsOf, lineOf, withLine, TotalsIn}
-use Rattle.lines.specs.Line.{startOf, callsStart, judgedOf}
+use Rattle.lines.specs.Totals.{totalsOf, lineHeld, withLine, TotalsIn}
+use Rattle.lines.specs.Line.{callsFound, callsStart, judgedOf}
 use Rattle.lines.proofs.Sums.{totals-more, either-left, either-right, totals-in}
 use Rattle.lines.proofs.Verdict.{productionOf}
 
@@ -32,8 +32,8 @@ answer-refuse right n (add p) e = let z : _≡_ {A = ℕ} 0 1 = cc in absurd (om
 answer-refuse right n (LineOutcome.refuse m) e = let q : m ≡ n = cc in ap LineOutcome.refuse q
 
 pub answer-add : (right : ℕ) (line : Line) (o : LineOutcome) → LineJudged.Add line ≡ judgedOf right o
-    → (p : Production) × (o ≡ add p) × (line ≡ lineOf right p)
-answer-add right line (add p) e = let q : line ≡ lineOf right p = cc in (p, refl, q)
+    → (p : Production) × (o ≡ add p) × (line ≡ lineHeld right p)
+answer-add right line (add p) e = let q : line ≡ lineHeld right p = cc in (p, refl, q)
 answer-add right line (LineOutcome.refuse m) e = let z : _≡_ {A = ℕ} 0 1 = cc in absurd (omega arith)
 
 -- ---- What was read
@@ -47,7 +47,7 @@ pub record ReadFrom (base : ℕ) (l : List ℕ) (p : Production) : Type 0 where
   pub shifted : p .calls ≡ map (callOf base) calls-read
 
 module _ (ps : List Production) (base : ℕ) (l : List ℕ) (p : Production) where
-  counted-is : (q : Production) → counted ps q ≡ add p → q ≡ p
+  counted-is : (q : Production) → withinLimits ps q ≡ add p → q ≡ p
   counted-is q e = go (passesLimit (ps ++ (q ∷ []))) e
     where
       go : (b : Bool) → cond b (LineOutcome.refuse pastLimit) (add q) ≡ add p → q ≡ p
@@ -59,7 +59,7 @@ module _ (ps : List Production) (base : ℕ) (l : List ℕ) (p : Production) whe
   unfolding callsStart
   from-judged es next cs (keep ks) a b k e =
       let q : productionOf base ks cs ≡ p = counted-is (productionOf base ks cs) e in
-      let s : next ≡ startOf (leftSide l) = sym (ap startOf a) in
+      let s : next ≡ callsFound (leftSide l) = sym (ap callsFound a) in
       record {
         events-read = es;
         calls-read = cs;
@@ -88,14 +88,14 @@ pub start-in : (l : List ℕ) → callsStart l ≤ length l
 unfolding callsStart
 start-in l = go (leftSide l) (left-in l)
   where
-    go : (r : EventsRead) → LeftIn (length l) 0 (leftOf r) → startOf r ≤ length l
+    go : (r : EventsRead) → LeftIn (length l) 0 (leftOf r) → callsFound r ≤ length l
     go EventsRead.broken h = omega arith
     go (events es next) h = h .1
 
--- ---- The limits with that line counted
+-- ---- The limits with that line withinLimits
 
 module _ (ps : List Production) (p : Production) (h : passesLimit (ps ++ (p ∷ [])) ≡ false) where
-  pub totals-next : (right : ℕ) → TotalsIn (withLine (totalsOf ps) (lineOf right p))
+  pub totals-next : (right : ℕ) → TotalsIn (withLine (totalsOf ps) (lineHeld right p))
   totals-next right = subst TotalsIn (totals-more ps p right) (totals-in (ps ++ (p ∷ [])) h)
 
   pub production-kept : productionPasses p ≡ false

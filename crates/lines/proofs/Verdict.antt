@@ -13,9 +13,9 @@ use Rattle.model.specs.Tables.{Call, Production}
 use Rattle.model.specs.Counts.{sequence, expanded}
 use Rattle.model.specs.Events.{WrittenEvent, EventsRead, events, leftSide}
 use Rattle.model.specs.Calls.{WrittenCall, CallsRead, calls, rightSide}
-use Rattle.model.specs.Compiling.{productionPasses, passesLimit, withCalls, withEvents, lineRead, EventsJudged, keep, judgedAll, callOf, LineOutcome, add, counted, lineJudged, lineFrom, lineOutcome}
+use Rattle.model.specs.Compiling.{productionPasses, passesLimit, withCalls, withEvents, lineRead, EventsJudged, keep, judgedAll, callOf, LineOutcome, add, withinLimits, lineJudged, lineFrom, lineOutcome}
 use Rattle.model.specs.declared.events.KeptEvent.{KeptEvent}
-use Rattle.scanner.specs.Sides.{leftOf, rightOf, parametersOf, mostOf}
+use Rattle.scanner.specs.Sides.{leftOf, rightOf, parameterNumber, mostOf}
 use Rattle.scanner.specs.declared.sides.LeftRead.{LeftRead}
 use Rattle.scanner.specs.declared.sides.RightRead.{RightRead}
 use Rattle.scanner.proofs.Right.{most-passes}
@@ -23,9 +23,9 @@ use Rattle.lines.specs.declared.totals.Totals.{Totals}
 use Rattle.lines.specs.declared.totals.Line.{Line}
 use Rattle.lines.specs.declared.left.LeftJudged.{LeftJudged}
 use Rattle.lines.specs.declared.line.LineJudged.{LineJudged}
-use Rattle.lines.specs.Totals.{parametersIn, totalsOf, lineOf, withLine}
+use Rattle.lines.specs.Totals.{parametersIn, totalsOf, lineHeld, withLine}
 use Rattle.lines.specs.Left.{IsRead, keptCounts, sideJudged}
-use Rattle.lines.specs.Line.{startOf, callsStart, judgedOf, linePasses, allPass, limited}
+use Rattle.lines.specs.Line.{callsFound, callsStart, judgedOf, linePasses, allPass, limited}
 use Rattle.lines.proofs.Sums.{passes-more}
 
 -- ---- What the code comes to
@@ -61,20 +61,20 @@ module _ (base : ℕ) (ks : List KeptEvent) (cs : List WrittenCall) where
   calls-count : length (map (callOf base) cs) ≡ length cs
   calls-count = length-map cs (callOf base)
 
-  parameters-shifted : (c : WrittenCall) → length (callOf base c .parameters) ≡ parametersOf c
+  parameters-shifted : (c : WrittenCall) → length (callOf base c .parameters) ≡ parameterNumber c
   parameters-shifted c = length-map (c .parameters) _
 
-  parameters-count : parametersIn (productionOf base ks cs) ≡ inAll parametersOf cs
+  parameters-count : parametersIn (productionOf base ks cs) ≡ inAll parameterNumber cs
   parameters-count = sum-map (λ (c : Call). length (c .parameters)) (callOf base) cs ∙ each cs
     where
-      each : (ds : List WrittenCall) → inAll (λ d. length (callOf base d .parameters)) ds ≡ inAll parametersOf ds
+      each : (ds : List WrittenCall) → inAll (λ d. length (callOf base d .parameters)) ds ≡ inAll parameterNumber ds
       each [] = refl
       each (d ∷ ds) = λ i. parameters-shifted d i + each ds i
 
   counts-of : (right : ℕ)
-      → lineOf right (productionOf base ks cs)
-      ≡ record { events = length ks; elements = length (expanded ks); calls = length cs; parameters = inAll parametersOf cs; right = right }
-  unfolding lineOf sequence
+      → lineHeld right (productionOf base ks cs)
+      ≡ record { events = length ks; elements = length (expanded ks); calls = length cs; parameters = inAll parameterNumber cs; right = right }
+  unfolding lineHeld sequence
   counts-of right = λ i.
       record {
         events = length ks;
@@ -97,8 +97,8 @@ module _ (base : ℕ) (ks : List KeptEvent) (cs : List WrittenCall) where
       each [] = refl
       each (d ∷ ds) = λ i. ltb parametersOfCallLimit (parameters-shifted d i) || each ds i
 
-  line-passes : (right : ℕ) → productionPasses (productionOf base ks cs) ≡ linePasses (lineOf right (productionOf base ks cs)) (mostOf cs)
-  unfolding productionPasses linePasses lineOf
+  line-passes : (right : ℕ) → productionPasses (productionOf base ks cs) ≡ linePasses (lineHeld right (productionOf base ks cs)) (mostOf cs)
+  unfolding productionPasses linePasses lineHeld
   line-passes right = λ i.
       ltb sequenceLimit (length (sequence (productionOf base ks cs)))
       || ltb callsOfProductionLimit (length (map (callOf base) cs))
@@ -109,29 +109,29 @@ module _ (base : ℕ) (ks : List KeptEvent) (cs : List WrittenCall) where
 -- the limits: in the model, of all productions with this one
 module _ (ps : List Production) (kept : passesLimit ps ≡ false) (base right : ℕ) (ks : List KeptEvent) (cs : List WrittenCall) where
   passes : passesLimit (ps ++ (productionOf base ks cs ∷ []))
-      ≡ linePasses (lineOf right (productionOf base ks cs)) (mostOf cs)
-      || allPass (withLine (totalsOf ps) (lineOf right (productionOf base ks cs)))
+      ≡ linePasses (lineHeld right (productionOf base ks cs)) (mostOf cs)
+      || allPass (withLine (totalsOf ps) (lineHeld right (productionOf base ks cs)))
   passes =
       passes-more ps (productionOf base ks cs) right kept
-      ∙ ap (λ (b : Bool). b || allPass (withLine (totalsOf ps) (lineOf right (productionOf base ks cs)))) (line-passes base ks cs right)
+      ∙ ap (λ (b : Bool). b || allPass (withLine (totalsOf ps) (lineHeld right (productionOf base ks cs)))) (line-passes base ks cs right)
 
-  limits : leftVerdict (totalsOf ps) right (length cs) (inAll parametersOf cs) (mostOf cs) (keptCounts (keep ks))
-      ≡ judgedOf right (counted ps (productionOf base ks cs))
+  limits : leftVerdict (totalsOf ps) right (length cs) (inAll parameterNumber cs) (mostOf cs) (keptCounts (keep ks))
+      ≡ judgedOf right (withinLimits ps (productionOf base ks cs))
   unfolding limited
   limits =
       ap (λ (line : Line). limited (totalsOf ps) line (mostOf cs)) (sym (counts-of base ks cs right))
-      ∙ ap (λ (b : Bool). cond b (LineJudged.Refuse pastLimit) (LineJudged.Add (lineOf right (productionOf base ks cs)))) (sym passes)
+      ∙ ap (λ (b : Bool). cond b (LineJudged.Refuse pastLimit) (LineJudged.Add (lineHeld right (productionOf base ks cs)))) (sym passes)
       ∙ pick (passesLimit (ps ++ (productionOf base ks cs ∷ [])))
     where
       pick : (b : Bool)
-          → cond b (LineJudged.Refuse pastLimit) (LineJudged.Add (lineOf right (productionOf base ks cs)))
+          → cond b (LineJudged.Refuse pastLimit) (LineJudged.Add (lineHeld right (productionOf base ks cs)))
           ≡ judgedOf right (cond b (LineOutcome.refuse pastLimit) (add (productionOf base ks cs)))
       pick true = refl
       pick false = refl
 
 module _ (ps : List Production) (kept : passesLimit ps ≡ false) (base : ℕ) where
   judged-same : (right : ℕ) (j : EventsJudged) (cs : List WrittenCall)
-      → leftVerdict (totalsOf ps) right (length cs) (inAll parametersOf cs) (mostOf cs) (keptCounts j)
+      → leftVerdict (totalsOf ps) right (length cs) (inAll parameterNumber cs) (mostOf cs) (keptCounts j)
       ≡ judgedOf right (lineJudged ps base j cs)
   judged-same right (keep ks) cs = limits ps kept base right ks cs
   judged-same right (EventsJudged.refuse n) cs = refl
@@ -147,7 +147,7 @@ module _ (ps : List Production) (kept : passesLimit ps ≡ false) (base : ℕ) w
   verdict l = go (leftSide l)
     where
       go : (r : EventsRead)
-          → sidesVerdict (totalsOf ps) l (sideJudged r) (leftOf r) ≡ judgedOf (startOf r) (lineFrom ps base (withEvents l r))
+          → sidesVerdict (totalsOf ps) l (sideJudged r) (leftOf r) ≡ judgedOf (callsFound r) (lineFrom ps base (withEvents l r))
       go EventsRead.broken = refl
       go (events es next) = calls-same next es (rightSide l next)
 

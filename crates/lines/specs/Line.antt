@@ -10,19 +10,19 @@ use Rattle.model.specs.Compiling.{LineOutcome, add}
 use Rattle.lines.specs.declared.totals.Totals.{Totals}
 use Rattle.lines.specs.declared.totals.Line.{Line}
 use Rattle.lines.specs.declared.line.LineJudged.{LineJudged}
-use Rattle.lines.specs.Totals.{lineOf, withLine}
+use Rattle.lines.specs.Totals.{lineHeld, withLine}
 
 -- where the calls of a line begin
-abbrev pub startOf : EventsRead → ℕ
-startOf EventsRead.broken = 0
-startOf (events es next) = next
+abbrev pub callsFound : EventsRead → ℕ
+callsFound EventsRead.broken = 0
+callsFound (events es next) = next
 
 unfoldable pub callsStart : List ℕ → ℕ
-callsStart l = startOf (leftSide l)
+callsStart l = callsFound (leftSide l)
 
 -- the refusal, or the production by its counts
 abbrev pub judgedOf : ℕ → LineOutcome → LineJudged
-judgedOf right (add p) = LineJudged.Add (lineOf right p)
+judgedOf right (add p) = LineJudged.Add (lineHeld right p)
 judgedOf right (LineOutcome.refuse n) = LineJudged.Refuse n
 
 -- a limit of one production is passed; `most` is the largest number of parameters that one call has

@@ -23,8 +23,8 @@ totalsOf ps =
     }
 
 -- what one production holds, its calls written from `right` on
-unfoldable pub lineOf : ℕ → Production → Line
-lineOf right p =
+unfoldable pub lineHeld : ℕ → Production → Line
+lineHeld right p =
     record {
       events = length (p .events);
       elements = length (sequence p);

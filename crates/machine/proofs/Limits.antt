@@ -17,7 +17,7 @@ use Rattle.model.specs.Lines.{lineEnd, lineAt, isBlankLine, directiveAt}
 use Rattle.model.specs.Calls.{WrittenCall}
 use Rattle.model.specs.Tables.{Production, Table}
 use Rattle.model.specs.Counts.{Element, sequence}
-use Rattle.model.specs.Compiling.{productionPasses, totalsPass, passesLimit, LineRead, broken, production, lineRead, EventsJudged, keep, judgedAll, callOf, LineOutcome, add, counted, lineJudged, lineFrom, lineOutcome, Outcome, accepted, refused, goOn, afterLine, afterDirective, linesFrom, linesOf, afterBytes, compiled}
+use Rattle.model.specs.Compiling.{productionPasses, totalsPass, passesLimit, LineRead, broken, production, lineRead, EventsJudged, keep, judgedAll, callOf, LineOutcome, add, withinLimits, lineJudged, lineFrom, lineOutcome, Outcome, accepted, refused, goOn, afterLine, afterDirective, linesFrom, linesOf, afterBytes, compiled}
 use Rattle.model.specs.Merging.{mergePassesLimit}
 use Rattle.model.specs.Matching.{fits, follows, readsAsPrefix, readingOf}
 use Rattle.model.specs.Demand.{Accepted, byCompiling, byMerging}
@@ -54,10 +54,10 @@ fine-cond : (b : Bool) (x y : Outcome) → Fine x → Fine y → Fine (cond b x 
 fine-cond true x y f g = f
 fine-cond false x y f g = g
 
-fine-counted : (before : List Production) (p : Production) → FineLine before (counted before p)
+fine-counted : (before : List Production) (p : Production) → FineLine before (withinLimits before p)
 fine-counted before p = go (passesLimit (before ++ (p ∷ []))) refl
   where
-    go : (b : Bool) → passesLimit (before ++ (p ∷ [])) ≡ b → FineLine before (counted before p)
+    go : (b : Bool) → passesLimit (before ++ (p ∷ [])) ≡ b → FineLine before (withinLimits before p)
     go true q = rw q tt
     go false q = rw q q
 

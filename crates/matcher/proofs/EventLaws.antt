@@ -16,7 +16,7 @@ use Rattle.model.specs.declared.events.KeptEvent.{KeptEvent}
 use Rattle.keyboard.specs.Pairs.{pairAsked}
 use Rattle.keyboard.proofs.Pairs.{key-matches}
 use Rattle.records.specs.Ranges.{EventRanges}
-use Rattle.tables.specs.Reading.{isFlag, eventOf, eventAt}
+use Rattle.tables.specs.Reading.{isFlag, eventFromWords, eventEntry}
 use Rattle.matcher.specs.Walk.{eventMeets, detailAsked, flagsIn, valueIn, elementOf, fitsAfter}
 
 and-true : (a : Bool) → a && true ≡ a
@@ -50,29 +50,29 @@ asked-met map e value x r =
 
 module _ (map : List ℕ) (l : List ℕ) (i : ℕ) (x : Event) (r : EventRanges x) where
   -- the state does not meet the test
-  pub meets-not : stateMeets (eventAt l i .set) (eventAt l i .clear) (isFlag 2 (flagsIn l i)) (x .state) ≡ false
-      → eventMeets map (eventAt l i) x ≡ false
-  unfolding eventMeets eventAt eventOf flagsIn
+  pub meets-not : stateMeets (eventEntry l i .set) (eventEntry l i .clear) (isFlag 2 (flagsIn l i)) (x .state) ≡ false
+      → eventMeets map (eventEntry l i) x ≡ false
+  unfolding eventMeets eventEntry eventFromWords flagsIn
   meets-not q = rw q
 
   -- no detail is asked for
-  pub meets-any : stateMeets (eventAt l i .set) (eventAt l i .clear) (isFlag 2 (flagsIn l i)) (x .state) ≡ true
-      → isFlag 4 (flagsIn l i) ≡ false → eventMeets map (eventAt l i) x ≡ true
-  unfolding eventMeets eventAt eventOf flagsIn
+  pub meets-any : stateMeets (eventEntry l i .set) (eventEntry l i .clear) (isFlag 2 (flagsIn l i)) (x .state) ≡ true
+      → isFlag 4 (flagsIn l i) ≡ false → eventMeets map (eventEntry l i) x ≡ true
+  unfolding eventMeets eventEntry eventFromWords flagsIn
   meets-any q g = rw (q, g)
 
-  given-detail : isFlag 4 (flagsIn l i) ≡ true → eventAt l i .detail ≡ Detail.Value (valueIn l i)
-  unfolding eventAt eventOf flagsIn valueIn
+  given-detail : isFlag 4 (flagsIn l i) ≡ true → eventEntry l i .detail ≡ Detail.Value (valueIn l i)
+  unfolding eventEntry eventFromWords flagsIn valueIn
   given-detail g = rw g
 
-  pub meets-detail : stateMeets (eventAt l i .set) (eventAt l i .clear) (isFlag 2 (flagsIn l i)) (x .state) ≡ true
+  pub meets-detail : stateMeets (eventEntry l i .set) (eventEntry l i .clear) (isFlag 2 (flagsIn l i)) (x .state) ≡ true
       → isFlag 4 (flagsIn l i) ≡ true
-      → detailAsked map (eventAt l i .set) (eventAt l i .clear) (isFlag 1 (flagsIn l i)) (valueIn l i) x ≡ eventMeets map (eventAt l i) x
-  unfolding eventMeets eventAt eventOf flagsIn
+      → detailAsked map (eventEntry l i .set) (eventEntry l i .clear) (isFlag 1 (flagsIn l i)) (valueIn l i) x ≡ eventMeets map (eventEntry l i) x
+  unfolding eventMeets eventEntry eventFromWords flagsIn
   meets-detail q g =
-      asked-met map (eventAt l i) (valueIn l i) x r
-      ∙ sym (ap (λ (d : Detail). detailMet map (eventAt l i) d x) (given-detail g))
-      ∙ sym (ap (λ (b : Bool). b && detailMet map (eventAt l i) (eventAt l i .detail) x) q)
+      asked-met map (eventEntry l i) (valueIn l i) x r
+      ∙ sym (ap (λ (d : Detail). detailMet map (eventEntry l i) d x) (given-detail g))
+      ∙ sym (ap (λ (b : Bool). b && detailMet map (eventEntry l i) (eventEntry l i .detail) x) q)
 
 -- ---- The element
 

@@ -1,4 +1,4 @@
--- An event that begins a production along which a stretch reads as a prefix passes the quick test, and so stands within the
+-- An event that mayBegin a production along which a stretch reads as a prefix passes the quick test, and so stands within the
 -- bounds of those that pass.
 use Prim.Native.Nat.{ℕ, _+_, _-_, _*_, _/_, _%_, _≤_, _<_}
 use native.Mathlib.Omega.{arith}
@@ -22,12 +22,12 @@ use Rattle.modifiers.proofs.Meeting.{bits-met}
 use Rattle.records.specs.Ranges.{EventRanges}
 use Rattle.counts.specs.Elements.{releases, elementCount, elementCode}
 use Rattle.tables.specs.Layout.{codesAt, countsAt, setsAt, clearsAt, lowsAt, highsAt}
-use Rattle.tables.specs.Reading.{isFlag, eventOf, eventAt, eventCount}
+use Rattle.tables.specs.Reading.{isFlag, eventFromWords, eventEntry, eventTotal}
 use Rattle.matcher.specs.declared.filter.Sought.{Sought}
 use Rattle.matcher.specs.declared.walk.Followed.{Followed}
 use Rattle.matcher.specs.State.{zeroEvent}
 use Rattle.matcher.specs.Walk.{Outside, eventMeets, detailAsked, flagsIn, valueIn, elementOf, fitsAfter, sizeIn}
-use Rattle.matcher.specs.Filter.{other, soughtOf, suits, codeSeems, detailSeems, seems, begins, pairs, codeBegins, Within}
+use Rattle.matcher.specs.Filter.{other, soughtOf, suits, codeSeems, detailSeems, seems, mayBegin, pairs, codeBegins, PassersWithin}
 use Rattle.matcher.proofs.TableFacts.{EntryFacts, TableFacts}
 use Rattle.matcher.proofs.EventLaws.{meets-detail}
 use Rattle.matcher.proofs.FollowLaws.{target, Walks, walks-start, walks-other, walks-over, walks-no, walks-turn}
@@ -81,15 +81,15 @@ sought-code : (map : List ℕ) (x : Event) → x .code ≡ soughtOf map x .code
 unfolding soughtOf
 sought-code map x = refl
 
-state-part : (map l : List ℕ) (i : ℕ) (x : Event) → eventMeets map (eventAt l i) x ≡ true
-    → stateMeets (eventAt l i .set) (eventAt l i .clear) (isFlag 2 (flagsIn l i)) (x .state) ≡ true
-unfolding eventMeets eventAt eventOf flagsIn
+state-part : (map l : List ℕ) (i : ℕ) (x : Event) → eventMeets map (eventEntry l i) x ≡ true
+    → stateMeets (eventEntry l i .set) (eventEntry l i .clear) (isFlag 2 (flagsIn l i)) (x .state) ≡ true
+unfolding eventMeets eventEntry eventFromWords flagsIn
 state-part map l i x m =
-    and-left (stateMeets (eventAt l i .set) (eventAt l i .clear) (isFlag 2 (flagsIn l i)) (x .state)) (detailMet map (eventAt l i) (eventAt l i .detail) x) m
+    and-left (stateMeets (eventEntry l i .set) (eventEntry l i .clear) (isFlag 2 (flagsIn l i)) (x .state)) (detailMet map (eventEntry l i) (eventEntry l i .detail) x) m
 
 suits-state : (map l : List ℕ) (i : ℕ) (x : Event) → EntryFacts l i
-    → stateMeets (eventAt l i .set) (eventAt l i .clear) (isFlag 2 (flagsIn l i)) (x .state) ≡ true → suits l i (soughtOf map x) ≡ true
-unfolding suits stateMeets soughtOf eventAt eventOf
+    → stateMeets (eventEntry l i .set) (eventEntry l i .clear) (isFlag 2 (flagsIn l i)) (x .state) ≡ true → suits l i (soughtOf map x) ≡ true
+unfolding suits stateMeets soughtOf eventEntry eventFromWords
 suits-state map l i x f m =
     let set = wordAt l (setsAt + i) in
     let clear = wordAt l (clearsAt + i) in
@@ -121,82 +121,82 @@ module _ (map : List ℕ) (x : Event) where
           rw (q, p, ← w, eq-eqb (folded value) (folded value) refl) (or-assoc (eqb low 0) true true refl)
 
   module _ (l : List ℕ) (b : Bytes l) (i : ℕ) (f : EntryFacts l i) (r : EventRanges x) where
-    detail-seems : eventMeets map (eventAt l i) x ≡ true → detailSeems (wordAt l (lowsAt + i)) (soughtOf map x) ≡ true
+    detail-seems : eventMeets map (eventEntry l i) x ≡ true → detailSeems (wordAt l (lowsAt + i)) (soughtOf map x) ≡ true
     detail-seems m = go (isFlag 4 (flagsIn l i)) refl
       where
-        state-met : stateMeets (eventAt l i .set) (eventAt l i .clear) (isFlag 2 (flagsIn l i)) (x .state) ≡ true
+        state-met : stateMeets (eventEntry l i .set) (eventEntry l i .clear) (isFlag 2 (flagsIn l i)) (x .state) ≡ true
         state-met = state-part map l i x m
 
         go : (t : Bool) → isFlag 4 (flagsIn l i) ≡ t → detailSeems (wordAt l (lowsAt + i)) (soughtOf map x) ≡ true
         go true q =
-            asked (eventAt l i .set) (eventAt l i .clear) (isFlag 1 (flagsIn l i)) (valueIn l i) (wordAt l (lowsAt + i)) (low-is l b i) (meets-detail map l i x r state-met q ∙ m)
+            asked (eventEntry l i .set) (eventEntry l i .clear) (isFlag 1 (flagsIn l i)) (valueIn l i) (wordAt l (lowsAt + i)) (low-is l b i) (meets-detail map l i x r state-met q ∙ m)
         go false q = none-asked (wordAt l (lowsAt + i)) (f .bare q)
 
     -- ---- The event
 
     module _ (limit before : ℕ) where
-      seems-fits : fitsAfter map limit before (elementOf (eventAt l i) 0) x ≡ true → seems l i (soughtOf map x) ≡ true
+      seems-fits : fitsAfter map limit before (elementOf (eventEntry l i) 0) x ≡ true → seems l i (soughtOf map x) ≡ true
       unfolding fitsAfter elementOf seems
       seems-fits e =
-          let p = chain-parts (eqb (elementCode (eventAt l i .code) (eventAt l i .count) 0) (x .code))
-          (eventMeets map (eventAt l i) x ∷ (not (elementOf (eventAt l i) 0 .timed) || quick limit before (x .time)) ∷ []) e in
+          let p = chain-parts (eqb (elementCode (eventEntry l i .code) (eventEntry l i .count) 0) (x .code))
+          (eventMeets map (eventEntry l i) x ∷ (not (elementOf (eventEntry l i) 0 .timed) || quick limit before (x .time)) ∷ []) e in
           let c : codeSeems (wordAt l (codesAt + i)) (soughtOf map x) ≡ true
-          = rw (f .codeWord) (first-code (eventAt l i .code) (eventAt l i .count) (soughtOf map x) (eqb-true (elementCode (eventAt l i .code) (eventAt l i .count) 0) (x .code) (p .0) ∙ sought-code map x)) in
+          = rw (f .codeWord) (first-code (eventEntry l i .code) (eventEntry l i .count) (soughtOf map x) (eqb-true (elementCode (eventEntry l i .code) (eventEntry l i .count) 0) (x .code) (p .0) ∙ sought-code map x)) in
           and-both (codeSeems (wordAt l (codesAt + i)) (soughtOf map x)) (detailSeems (wordAt l (lowsAt + i)) (soughtOf map x)) c (detail-seems (p .1 .0))
 
-      suits-fits : fitsAfter map limit before (elementOf (eventAt l i) 0) x ≡ true → suits l i (soughtOf map x) ≡ true
+      suits-fits : fitsAfter map limit before (elementOf (eventEntry l i) 0) x ≡ true → suits l i (soughtOf map x) ≡ true
       unfolding fitsAfter elementOf
       suits-fits e =
-          let p = chain-parts (eqb (elementCode (eventAt l i .code) (eventAt l i .count) 0) (x .code))
-          (eventMeets map (eventAt l i) x ∷ (not (elementOf (eventAt l i) 0 .timed) || quick limit before (x .time)) ∷ []) e in
+          let p = chain-parts (eqb (elementCode (eventEntry l i .code) (eventEntry l i .count) 0) (x .code))
+          (eventMeets map (eventEntry l i) x ∷ (not (elementOf (eventEntry l i) 0 .timed) || quick limit before (x .time)) ∷ []) e in
           suits-state map l i x f (state-part map l i x (p .1 .0))
 
       -- an event that does not pass does not fit
-      pub fits-suits : suits l i (soughtOf map x) ≡ false → fitsAfter map limit before (elementOf (eventAt l i) 0) x ≡ false
-      fits-suits q = go (fitsAfter map limit before (elementOf (eventAt l i) 0) x) refl
+      pub fits-suits : suits l i (soughtOf map x) ≡ false → fitsAfter map limit before (elementOf (eventEntry l i) 0) x ≡ false
+      fits-suits q = go (fitsAfter map limit before (elementOf (eventEntry l i) 0) x) refl
         where
-          go : (t : Bool) → fitsAfter map limit before (elementOf (eventAt l i) 0) x ≡ t → t ≡ false
+          go : (t : Bool) → fitsAfter map limit before (elementOf (eventEntry l i) 0) x ≡ t → t ≡ false
           go true e = absurd (true≢false (sym (suits-fits e) ∙ q))
           go false e = refl
 
-      pub fits-seems : seems l i (soughtOf map x) ≡ false → fitsAfter map limit before (elementOf (eventAt l i) 0) x ≡ false
-      fits-seems q = go (fitsAfter map limit before (elementOf (eventAt l i) 0) x) refl
+      pub fits-seems : seems l i (soughtOf map x) ≡ false → fitsAfter map limit before (elementOf (eventEntry l i) 0) x ≡ false
+      fits-seems q = go (fitsAfter map limit before (elementOf (eventEntry l i) 0) x) refl
         where
-          go : (t : Bool) → fitsAfter map limit before (elementOf (eventAt l i) 0) x ≡ t → t ≡ false
+          go : (t : Bool) → fitsAfter map limit before (elementOf (eventEntry l i) 0) x ≡ t → t ≡ false
           go true e = absurd (true≢false (sym (seems-fits e) ∙ q))
           go false e = refl
 
 -- ---- A production
 
 module _ (map : List ℕ) (limit : ℕ) (l : List ℕ) (f : TableFacts l) (b : Bytes l) (first n : ℕ) (events : List Event) (from to : ℕ)
-    (long : length events ≡ 25) (room : to ≤ 25) (m : from < to) (o : 1 ≤ n) (w : first + n ≤ eventCount l)
+    (long : length events ≡ 25) (room : to ≤ 25) (m : from < to) (o : 1 ≤ n) (w : first + n ≤ eventTotal l)
     (ranges : (j : ℕ) → j < to → EventRanges (getD events j zeroEvent)) where
   abbrev x : ℕ → Event
   x j = getD events j zeroEvent
 
   -- whether event j fits the first element of event i
   abbrev fit : ℕ → ℕ → Bool
-  fit i j = fitsAfter map limit (x j .time) (elementOf (eventAt l i) 0) (x j)
+  fit i j = fitsAfter map limit (x j .time) (elementOf (eventEntry l i) 0) (x j)
 
   suits-not : suits l first (soughtOf map (x from)) ≡ false → target map limit l first n events from to ≡ Followed.No
   suits-not q =
-      let h : first < eventCount l = omega arith in
+      let h : first < eventTotal l = omega arith in
       walks-other map limit l first n events from to long room m o (fit first from) refl
       (fits-suits map (x from) l b first (f .entry first h) (ranges from m) limit (x from .time) q)
 
   -- the first event of the stretch does not pass
   pub seems-not : seems l first (soughtOf map (x from)) ≡ false → target map limit l first n events from to ≡ Followed.No
   seems-not q =
-      let h : first < eventCount l = omega arith in
+      let h : first < eventTotal l = omega arith in
       walks-other map limit l first n events from to long room m o (fit first from) refl
       (fits-seems map (x from) l b first (f .entry first h) (ranges from m) limit (x from .time) q)
 
   single : wordAt l (countsAt + first) ≤ 1 → 0 + 1 ≡ sizeIn l first
   unfolding sizeIn elementCount
   single c =
-      let h : first < eventCount l = omega arith in
-      let e : eventAt l first .count ≤ 1 = rw (← f .entry first h .countWord) c in
-      rw (le-leb (eventAt l first .count) 1 e)
+      let h : first < eventTotal l = omega arith in
+      let e : eventEntry l first .count ≤ 1 = rw (← f .entry first h .countWord) c in
+      rw (le-leb (eventEntry l first .count) 1 e)
 
   -- the first event of the production is met once, and the second event of the stretch does not pass at the next
   second-not : wordAt l (countsAt + first) ≤ 1 → from + 1 < to → seems l (first + 1) (soughtOf map (x (from + 1))) ≡ false
@@ -215,7 +215,7 @@ module _ (map : List ℕ) (limit : ℕ) (l : List ℕ) (f : TableFacts l) (b : B
       more : (t : Bool) → ltb (first + 1) (first + n) ≡ t → fit first from ≡ true → target map limit l first n events from to ≡ Followed.No
       more true k e =
           let d : first + 1 < first + n = ltb-true (first + 1) (first + n) k in
-          let i : first + 1 < eventCount l = omega arith in
+          let i : first + 1 < eventTotal l = omega arith in
           walks-no map limit l first n events from to room (first + 1) 0 (from + 1) (turned e) d h (from + 1) (λ z. absurd (omega arith))
           (fit (first + 1) (from + 1)) refl
           (fits-seems map (x (from + 1)) l b (first + 1) (f .entry (first + 1) i) (ranges (from + 1) h) limit (x (from + 1) .time) q)
@@ -226,8 +226,8 @@ module _ (map : List ℕ) (limit : ℕ) (l : List ℕ) (f : TableFacts l) (b : B
       go true e = more (ltb (first + 1) (first + n)) refl e
       go false e = walks-other map limit l first n events from to long room m o (fit first from) refl e
 
-  pub begins-not : begins l (soughtOf map (x from)) first ≡ false → target map limit l first n events from to ≡ Followed.No
-  unfolding begins
+  pub begins-not : mayBegin l (soughtOf map (x from)) first ≡ false → target map limit l first n events from to ≡ Followed.No
+  unfolding mayBegin
   begins-not q = go (seems l first (soughtOf map (x from))) refl
     where
       go : (t : Bool) → seems l first (soughtOf map (x from)) ≡ t → target map limit l first n events from to ≡ Followed.No
@@ -292,7 +292,7 @@ module _ (f : ℕ → Bool) where
   pub ended-step : (i high : ℕ) → Ended i high → (t : Bool) → t ≡ f i → (a : ℕ) → a ≡ cond t (i + 1) 0 → Ended (i + 1) (bitOr high a)
   ended-step = joined-step (λ j. j + 1)
 
-  pub ended-end : (n m high : ℕ) → Ended n high → n ≡ m → Within f m 0 high
+  pub ended-end : (n m high : ℕ) → Ended n high → n ≡ m → PassersWithin f m 0 high
   ended-end n m high w e j k q =
       let p : j < n = omega arith in
       (omega arith, omega (arith, w j p q))
@@ -309,22 +309,22 @@ module _ (f : ℕ → Bool) where
   noted-step i high turned w t e a b ea eb =
       (ended-step i high (w .0) t e a ea, joined-step (λ j. 256 - j) i turned (w .1) t e b eb)
 
-  pub noted-end : (n m high turned low : ℕ) → Noted n high turned → n ≡ m → low ≤ 256 - turned → Within f m low high
+  pub noted-end : (n m high turned low : ℕ) → Noted n high turned → n ≡ m → low ≤ 256 - turned → PassersWithin f m low high
   noted-end n m high turned low w e h j k q =
       let p : j < n = omega arith in
       (omega (arith, w .1 j p q), omega (arith, w .0 j p q))
 
--- an event that does not stand there begins no production along which the stretch reads as a prefix
+-- an event that does not stand there mayBegin no production along which the stretch reads as a prefix
 pub outside-of : (l map : List ℕ) (events : List Event) (from to : ℕ) (f : ℕ → Bool)
-    → ((limit first n : ℕ) → 1 ≤ n → first + n ≤ eventCount l → f first ≡ false → target map limit l first n events from to ≡ Followed.No)
-    → (low high : ℕ) → Within f (eventCount l) low high → Outside l map (drop from (take to events)) low high
+    → ((limit first n : ℕ) → 1 ≤ n → first + n ≤ eventTotal l → f first ≡ false → target map limit l first n events from to ≡ Followed.No)
+    → (low high : ℕ) → PassersWithin f (eventTotal l) low high → Outside l map (drop from (take to events)) low high
 outside-of l map events from to f none-there low high w =
     record {
       before = λ limit first n o b h. none-there limit first n o b (out first (omega arith) (λ d. absurd (omega (arith, d .0))));
       after = λ limit first n o b h. none-there limit first n o b (out first (omega arith) (λ d. absurd (omega (arith, d .1))));
     }
   where
-    out : (i : ℕ) → i < eventCount l → ((low ≤ i) × (i < high) → f i ≡ false) → f i ≡ false
+    out : (i : ℕ) → i < eventTotal l → ((low ≤ i) × (i < high) → f i ≡ false) → f i ≡ false
     out i h k = go (f i) refl
       where
         go : (t : Bool) → f i ≡ t → f i ≡ false
@@ -334,20 +334,20 @@ outside-of l map events from to f none-there low high w =
 module _ (map l : List ℕ) (f : TableFacts l) (b : Bytes l) (events : List Event) (from to : ℕ) (long : length events ≡ 25) (room : to ≤ 25)
     (m : from < to) (ranges : (j : ℕ) → j < to → EventRanges (getD events j zeroEvent)) (one : Sought)
     (eo : one ≡ soughtOf map (getD events from zeroEvent)) (low high : ℕ) where
-  pub outside-code : Within (codeBegins l one) (eventCount l) low high → Outside l map (drop from (take to events)) low high
+  pub outside-code : PassersWithin (codeBegins l one) (eventTotal l) low high → Outside l map (drop from (take to events)) low high
   outside-code =
       outside-of l map events from to (codeBegins l one)
       (λ limit first n o w q. code-not map limit l f b first n events from to long room m o w ranges (ap (λ (s : Sought). codeBegins l s first) (sym eo) ∙ q))
       low high
 
-  pub outside-begins : Within (begins l one) (eventCount l) low high → Outside l map (drop from (take to events)) low high
+  pub outside-begins : PassersWithin (mayBegin l one) (eventTotal l) low high → Outside l map (drop from (take to events)) low high
   outside-begins =
-      outside-of l map events from to (begins l one)
-      (λ limit first n o w q. begins-not map limit l f b first n events from to long room m o w ranges (ap (λ (s : Sought). begins l s first) (sym eo) ∙ q))
+      outside-of l map events from to (mayBegin l one)
+      (λ limit first n o w q. begins-not map limit l f b first n events from to long room m o w ranges (ap (λ (s : Sought). mayBegin l s first) (sym eo) ∙ q))
       low high
 
   pub outside-pairs : (two : Sought) → from + 1 < to → two ≡ soughtOf map (getD events (from + 1) zeroEvent)
-      → Within (pairs l one two) (eventCount l) low high → Outside l map (drop from (take to events)) low high
+      → PassersWithin (pairs l one two) (eventTotal l) low high → Outside l map (drop from (take to events)) low high
   outside-pairs two h et =
       outside-of l map events from to (pairs l one two)
       (λ limit first n o w q. pairs-not map limit l f b first n events from to long room m o w ranges two h et (ap (λ (s : Sought). pairs l s two first) (sym eo) ∙ q))

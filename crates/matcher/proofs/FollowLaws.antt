@@ -16,7 +16,7 @@ use Rattle.model.specs.Matching.{inTime, fits}
 use Rattle.model.specs.declared.events.Event.{Event}
 use Rattle.counts.proofs.Elements.{element-count, count-at-least}
 use Rattle.counts.proofs.Places.{element-at, timed-later}
-use Rattle.tables.specs.Reading.{eventAt}
+use Rattle.tables.specs.Reading.{eventEntry}
 use Rattle.matcher.specs.declared.walk.Followed.{Followed}
 use Rattle.matcher.specs.State.{zeroEvent}
 use Rattle.matcher.specs.Walk.{elementOf, fitsAfter, walked, sizeIn}
@@ -27,42 +27,42 @@ use Rattle.matcher.proofs.EventLaws.{fits-same}
 module _ (l : List ℕ) (last : ℕ) where
   -- the elements from element k of event i on
   pub left : ℕ → ℕ → List Element
-  left i k = drop k (expanded (run (eventAt l) i (last - i)))
+  left i k = drop k (expanded (run (eventEntry l) i (last - i)))
 
   split : (i : ℕ) → i < last
-      → expanded (run (eventAt l) i (last - i)) ≡ elementsOf (eventAt l i) ++ expanded (run (eventAt l) (suc i) (last - suc i))
+      → expanded (run (eventEntry l) i (last - i)) ≡ elementsOf (eventEntry l i) ++ expanded (run (eventEntry l) (suc i) (last - suc i))
   unfolding run expanded
   split i h = let s : last - i ≡ suc (last - suc i) = omega arith in rw s
 
-  size-elements : (i : ℕ) → length (elementsOf (eventAt l i)) ≡ sizeIn l i
+  size-elements : (i : ℕ) → length (elementsOf (eventEntry l i)) ≡ sizeIn l i
   unfolding elementsOf sizeIn
-  size-elements i = element-count (eventAt l i .count) (eventAt l i)
+  size-elements i = element-count (eventEntry l i .count) (eventEntry l i)
 
-  element-is : (i k : ℕ) (d : Element) → k < sizeIn l i → getD (elementsOf (eventAt l i)) k d ≡ elementOf (eventAt l i) k
+  element-is : (i k : ℕ) (d : Element) → k < sizeIn l i → getD (elementsOf (eventEntry l i)) k d ≡ elementOf (eventEntry l i) k
   unfolding elementsOf sizeIn elementOf
-  element-is i k d h = element-at (eventAt l i .count) (eventAt l i) d k h
+  element-is i k d h = element-at (eventEntry l i .count) (eventEntry l i) d k h
 
-  pub left-cons : (i k : ℕ) → i < last → k < sizeIn l i → left i k ≡ elementOf (eventAt l i) k ∷ left i (k + 1)
+  pub left-cons : (i k : ℕ) → i < last → k < sizeIn l i → left i k ≡ elementOf (eventEntry l i) k ∷ left i (k + 1)
   unfolding left
   left-cons i k h m =
-      let d : Element = elementOf (eventAt l i) k in
-      let rest = expanded (run (eventAt l) (suc i) (last - suc i)) in
+      let d : Element = elementOf (eventEntry l i) k in
+      let rest = expanded (run (eventEntry l) (suc i) (last - suc i)) in
       let s = size-elements i in
-      let n : k < length (elementsOf (eventAt l i)) = omega arith in
-      let b : k < length (elementsOf (eventAt l i) ++ rest) = omega (arith, length-append (elementsOf (eventAt l i)) rest) in
-      let g : getD (elementsOf (eventAt l i) ++ rest) k d ≡ elementOf (eventAt l i) k
-      = List·getD-append (elementsOf (eventAt l i)) rest d k n ∙ element-is i k d m in
+      let n : k < length (elementsOf (eventEntry l i)) = omega arith in
+      let b : k < length (elementsOf (eventEntry l i) ++ rest) = omega (arith, length-append (elementsOf (eventEntry l i)) rest) in
+      let g : getD (elementsOf (eventEntry l i) ++ rest) k d ≡ elementOf (eventEntry l i) k
+      = List·getD-append (elementsOf (eventEntry l i)) rest d k n ∙ element-is i k d m in
       ap (drop k) (split i h)
-      ∙ drop-cons (elementsOf (eventAt l i) ++ rest) k d b
+      ∙ drop-cons (elementsOf (eventEntry l i) ++ rest) k d b
       ∙ ap₂ (λ (a : Element) (q : List Element). a ∷ q) g
-      (ap (drop (suc k)) (sym (split i h)) ∙ ap (λ (q : ℕ). drop q (expanded (run (eventAt l) i (last - i)))) (sym (add-one k)))
+      (ap (drop (suc k)) (sym (split i h)) ∙ ap (λ (q : ℕ). drop q (expanded (run (eventEntry l) i (last - i)))) (sym (add-one k)))
 
   pub left-turn : (i k : ℕ) → i < last → k ≡ sizeIn l i → left i k ≡ left (i + 1) 0
   unfolding left
   left-turn i k h e =
       ap (drop k) (split i h)
-      ∙ drop-at (elementsOf (eventAt l i)) (expanded (run (eventAt l) (suc i) (last - suc i))) k (size-elements i ∙ sym e)
-      ∙ ap (λ (q : ℕ). expanded (run (eventAt l) q (last - q))) (sym (add-one i))
+      ∙ drop-at (elementsOf (eventEntry l i)) (expanded (run (eventEntry l) (suc i) (last - suc i))) k (size-elements i ∙ sym e)
+      ∙ ap (λ (q : ℕ). expanded (run (eventEntry l) q (last - q))) (sym (add-one i))
 
   pub left-over : (i k : ℕ) → last ≤ i → left i k ≡ []
   unfolding left run expanded
@@ -70,7 +70,7 @@ module _ (l : List ℕ) (last : ℕ) where
 
   pub size-pos : (i : ℕ) → 0 < sizeIn l i
   unfolding sizeIn
-  size-pos i = count-at-least (eventAt l i .code) (eventAt l i .count)
+  size-pos i = count-at-least (eventEntry l i .code) (eventEntry l i .count)
 
 -- ---- Events
 
@@ -85,7 +85,7 @@ module _ (map : List ℕ) (limit : ℕ) (l : List ℕ) (last : ℕ) (events : Li
       (left l last i k) (drop j (take to events))
 
   pub rest-start : (i : ℕ)
-      → walked map limit none none (expanded (run (eventAt l) i (last - i))) (drop from (take to events)) ≡ rest i 0 from
+      → walked map limit none none (expanded (run (eventEntry l) i (last - i))) (drop from (take to events)) ≡ rest i 0 from
   unfolding rest left
   rest-start i = let z : from - from ≡ 0 = omega arith in rw z
 
@@ -112,21 +112,21 @@ module _ (map : List ℕ) (limit : ℕ) (l : List ℕ) (last : ℕ) (events : Li
 
     module _ (i k j at : ℕ) (h : i < last) (m : k < sizeIn l i) (b : j < to) (f : k + from ≤ j) (a : 2 ≤ k → at ≡ j - 2) where
       abbrev now : Bool
-      now = fitsAfter map limit (getD events at zeroEvent .time) (elementOf (eventAt l i) k) (getD events j zeroEvent)
+      now = fitsAfter map limit (getD events at zeroEvent .time) (elementOf (eventEntry l i) k) (getD events j zeroEvent)
 
-      timed : elementOf (eventAt l i) k .timed ≡ true
+      timed : elementOf (eventEntry l i) k .timed ≡ true
           → inTime limit (ago 2 (j - from) (getD events (j - 2) zeroEvent)) (getD events j zeroEvent)
           ≡ quick limit (getD events at zeroEvent .time) (getD events j zeroEvent .time)
       unfolding elementOf
       timed q =
-          let p : 2 ≤ k = timed-later (eventAt l i .code) (eventAt l i .count) k q in
+          let p : 2 ≤ k = timed-later (eventEntry l i .code) (eventEntry l i .count) k q in
           let e : at ≡ j - 2 = a p in
           rw (le-ltb (j - from) 2 (omega arith), e)
 
-      same : fits map limit (ago 2 (j - from) (getD events (j - 2) zeroEvent)) (elementOf (eventAt l i) k) (getD events j zeroEvent) ≡ now
+      same : fits map limit (ago 2 (j - from) (getD events (j - 2) zeroEvent)) (elementOf (eventEntry l i) k) (getD events j zeroEvent) ≡ now
       same =
           fits-same map limit (getD events at zeroEvent .time) (ago 2 (j - from) (getD events (j - 2) zeroEvent))
-          (elementOf (eventAt l i) k) (getD events j zeroEvent) timed
+          (elementOf (eventEntry l i) k) (getD events j zeroEvent) timed
 
       step : rest i k j ≡ cond now (rest i (k + 1) (j + 1)) Followed.No
       unfolding rest walked
@@ -156,7 +156,7 @@ module _ (map : List ℕ) (limit : ℕ) (l : List ℕ) (last : ℕ) (events : Li
 
 module _ (map : List ℕ) (limit : ℕ) (l : List ℕ) (first n : ℕ) (events : List Event) (from to : ℕ) where
   abbrev pub target : Followed
-  target = walked map limit none none (expanded (run (eventAt l) first n)) (drop from (take to events))
+  target = walked map limit none none (expanded (run (eventEntry l) first n)) (drop from (take to events))
 
   -- where the walk stands: at element k of event i, and at event j of the stretch
   pub record Walks (i k j : ℕ) : Type 0 where
@@ -178,7 +178,7 @@ module _ (map : List ℕ) (limit : ℕ) (l : List ℕ) (first n : ℕ) (events :
         most = m;
         inside = λ q. size-pos l (first + n) first;
         long = h;
-        comes = ap (λ (q : ℕ). walked map limit none none (expanded (run (eventAt l) first q)) (drop from (take to events))) e
+        comes = ap (λ (q : ℕ). walked map limit none none (expanded (run (eventEntry l) first q)) (drop from (take to events))) e
             ∙ rest-start map limit l (first + n) events from to first;
       }
 
@@ -188,7 +188,7 @@ module _ (map : List ℕ) (limit : ℕ) (l : List ℕ) (first n : ℕ) (events :
     walks-over h m = w .comes ∙ rest-over map limit l (first + n) events from to (w .long) room i k j h m
 
     module _ (h : i < first + n) (m : j < to) (at : ℕ) (a : 2 ≤ k → at ≡ j - 2) (r : Bool)
-        (e : r ≡ fitsAfter map limit (getD events at zeroEvent .time) (elementOf (eventAt l i) k) (getD events j zeroEvent)) where
+        (e : r ≡ fitsAfter map limit (getD events at zeroEvent .time) (elementOf (eventEntry l i) k) (getD events j zeroEvent)) where
       pub walks-no : r ≡ false → target ≡ Followed.No
       walks-no q =
           w .comes ∙ rest-no map limit l (first + n) events from to (w .long) room i k j at h (w .inside h) m (w .started) a r e q
@@ -242,7 +242,7 @@ module _ (map : List ℕ) (limit : ℕ) (l : List ℕ) (first n : ℕ) (events :
 
   -- the first event does not fit the first element
   pub walks-other : length events ≡ 25 → to ≤ 25 → from < to → 1 ≤ n → (r : Bool)
-      → r ≡ fitsAfter map limit (getD events from zeroEvent .time) (elementOf (eventAt l first) 0) (getD events from zeroEvent)
+      → r ≡ fitsAfter map limit (getD events from zeroEvent .time) (elementOf (eventEntry l first) 0) (getD events from zeroEvent)
       → r ≡ false → target ≡ Followed.No
   walks-other h room m o r e q =
       let b : from ≤ to = omega arith in

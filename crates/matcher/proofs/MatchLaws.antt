@@ -23,7 +23,7 @@ use Rattle.tables.specs.Whole.{whole}
 use Rattle.matcher.specs.declared.state.State.{State}
 use Rattle.matcher.specs.declared.Answer.{Answer}
 use Rattle.matcher.specs.State.{keptOf, wholeState}
-use Rattle.matcher.specs.Match.{answerOf, refusedWith, tooShort, matchNumber, callAnswer}
+use Rattle.matcher.specs.Match.{stepAnswer, refusedWith, tooShort, matchNumber, callAnswer}
 use Rattle.matcher.proofs.StateLaws.{state-facts, state-kept}
 use Rattle.matcher.proofs.TableFacts.{table-facts}
 
@@ -61,15 +61,15 @@ not-is false q = absurd (false≢true (sym q))
 
 pub short-table : (table map : List ℕ) → length table ≤ 5903 → tooShort table map ≡ true
 unfolding tooShort
-short-table table map h = rw (lt-ltb (length table) 5904 (omega arith))
+short-table table map h = rw (lt-ltb (length table) tableLength (omega arith))
 
-pub short-map : (table map : List ℕ) → 5904 ≤ length table → (length map ≡ 496 → ⊥) → tooShort table map ≡ true
+pub short-map : (table map : List ℕ) → tableLength ≤ length table → (length map ≡ 496 → ⊥) → tooShort table map ≡ true
 unfolding tooShort
-short-map table map h n = rw (le-ltb (length table) 5904 h, ne-eqb (length map) 496 n)
+short-map table map h n = rw (le-ltb (length table) tableLength h, ne-eqb (length map) 496 n)
 
-pub not-short : (table map : List ℕ) → 5904 ≤ length table → length map ≡ 496 → tooShort table map ≡ false
+pub not-short : (table map : List ℕ) → tableLength ≤ length table → length map ≡ 496 → tooShort table map ≡ false
 unfolding tooShort
-not-short table map h e = rw (le-ltb (length table) 5904 h, eq-eqb (length map) 496 e)
+not-short table map h e = rw (le-ltb (length table) tableLength h, eq-eqb (length map) 496 e)
 
 or-right : (a b : Bool) → (a || b) ≡ false → b ≡ false
 or-right true b e = absurd (false≢true (sym e))
@@ -177,13 +177,13 @@ module _ (table map : List ℕ) (limit : ℕ) (s : State) (c : MatchCall) where
         go false e = refl
 
     acted : (x : Event) → recordRead (c .bytes) (c .order) ≡ RecordRead.Event x
-        → callAnswer table map limit s c ≡ answerOf (act (decode table) map limit (keptOf s) (RecordRead.Event x))
+        → callAnswer table map limit s c ≡ stepAnswer (act (decode table) map limit (keptOf s) (RecordRead.Event x))
     unfolding callAnswer stepped
     acted x r =
         rw (number-is false (accepted x r), step-number (accepted x r), r)
 
-    dropped-answer : _≡_ {A = Answer} (record { matched = Matched.Dropped; state = s }) (answerOf (dropEvent (decode table) map limit (keptOf s)))
-    unfolding answerOf
+    dropped-answer : _≡_ {A = Answer} (record { matched = Matched.Dropped; state = s }) (stepAnswer (dropEvent (decode table) map limit (keptOf s)))
+    unfolding stepAnswer
     dropped-answer =
         ap (λ (u : State). record { matched = Matched.Dropped; state = u }) (sym (state-kept s (state-facts s (p .stateWhole))))
 
@@ -193,10 +193,10 @@ module _ (table map : List ℕ) (limit : ℕ) (s : State) (c : MatchCall) where
         → _≡_ {A = Answer} (record { matched = Matched.Dropped; state = s }) (callAnswer table map limit s c)
     dropped-event x r q =
         dropped-answer
-        ∙ sym (acted x r ∙ ap (λ (b : Bool). answerOf (cond b (hear (decode table) map limit (keptOf s) x) (dropEvent (decode table) map limit (keptOf s)))) q)
+        ∙ sym (acted x r ∙ ap (λ (b : Bool). stepAnswer (cond b (hear (decode table) map limit (keptOf s) x) (dropEvent (decode table) map limit (keptOf s)))) q)
 
     pub heard-event : (x : Event) → recordRead (c .bytes) (c .order) ≡ RecordRead.Event x
         → any (hasType (x .code)) (decode table .productions) ≡ true
-        → answerOf (hear (decode table) map limit (keptOf s) x) ≡ callAnswer table map limit s c
+        → stepAnswer (hear (decode table) map limit (keptOf s) x) ≡ callAnswer table map limit s c
     heard-event x r q =
-        sym (acted x r ∙ ap (λ (b : Bool). answerOf (cond b (hear (decode table) map limit (keptOf s) x) (dropEvent (decode table) map limit (keptOf s)))) q)
+        sym (acted x r ∙ ap (λ (b : Bool). stepAnswer (cond b (hear (decode table) map limit (keptOf s) x) (dropEvent (decode table) map limit (keptOf s)))) q)

@@ -20,10 +20,10 @@ use Rattle.tables.specs.Whole.{whole}
 use Rattle.matcher.specs.declared.state.State.{State}
 use Rattle.matcher.specs.declared.Answer.{Answer}
 use Rattle.matcher.specs.declared.walk.Passed.{Passed}
-use Rattle.matcher.specs.State.{zeroEvent, slotsOf, putEvent, bytesOf, inSlots, keptOf, stateWith, stateOf}
-use Rattle.matcher.specs.Walk.{Ready, passed, passedIn}
+use Rattle.matcher.specs.State.{zeroEvent, slotsOf, putSlot, eventsBytes, inSlots, keptOf, stateWith, stateKeeping}
+use Rattle.matcher.specs.Walk.{WalkReady, passed, passedIn}
 use Rattle.matcher.specs.Moves.{answerWith, answerIn, restarted}
-use Rattle.matcher.specs.Match.{answerOf}
+use Rattle.matcher.specs.Match.{stepAnswer}
 use Rattle.matcher.proofs.SlotLaws.{length-in, take-slots, put-more}
 use Rattle.matcher.proofs.StateLaws.{StateFacts, InRanges, ranges-more, slots-kept, length-kept, kept-ranges}
 use Rattle.matcher.proofs.PassLaws.{someReads, chosenBy, passed-prefix, passed-chosen, passed-in}
@@ -31,7 +31,7 @@ use Rattle.matcher.proofs.PassLaws.{someReads, chosenBy, passed-prefix,
 -- ---- Slots
 
 pub no-slots : replicate 200 0 ≡ inSlots []
-unfolding inSlots bytesOf zeros
+unfolding inSlots eventsBytes zeros
 no-slots = refl
 
 module _ (events : List Event) (from : ℕ) where
@@ -43,12 +43,12 @@ module _ (events : List Event) (from : ℕ) where
 
   pub shift-more : (bytes : List ℕ) (i : ℕ) (x : Event) → from ≤ i → i < length events → length events ≡ 25
       → bytes ≡ inSlots (drop from (take i events)) → x ≡ getD events i zeroEvent
-      → putEvent bytes (i - from) x ≡ inSlots (drop from (take (i + 1) events))
+      → putSlot bytes (i - from) x ≡ inSlots (drop from (take (i + 1) events))
   shift-more bytes i x h m l e g =
       let n : length (drop from (take i events)) ≡ i - from = length-slice from i events (omega arith) in
       let b : length (drop from (take i events)) < 25 = omega arith in
-      ap₂ (λ (s : List ℕ) (y : Event). putEvent s (i - from) y) e g
-      ∙ ap (λ (k : ℕ). putEvent (inSlots (drop from (take i events))) k (getD events i zeroEvent)) (sym n)
+      ap₂ (λ (s : List ℕ) (y : Event). putSlot s (i - from) y) e g
+      ∙ ap (λ (k : ℕ). putSlot (inSlots (drop from (take i events))) k (getD events i zeroEvent)) (sym n)
       ∙ put-more (drop from (take i events)) (getD events i zeroEvent) b
       ∙ ap inSlots (sym (one-more i h m))
 
@@ -63,23 +63,23 @@ module _ (t : Table) (map : List ℕ) (limit : ℕ) where
 
   marked-answer : (found : Passed) (xs : List Event) (m : ℕ)
       → _≡_ {A = Answer}
-      (record { matched = selection t map limit (chosenBy found); state = stateOf (marked R (record { events = xs; selected = m }) (chosenBy found)) })
+      (record { matched = selection t map limit (chosenBy found); state = stateKeeping (marked R (record { events = xs; selected = m }) (chosenBy found)) })
       (answerIn found xs m)
-  unfolding answerIn answerWith stateOf stateWith
+  unfolding answerIn answerWith stateKeeping stateWith
   marked-answer Passed.No xs m = refl
   marked-answer Passed.Prefix xs m = refl
   marked-answer (Passed.Chosen p) xs m = refl
 
   step-answer : (k : Kept Event) (x : Event) (xs : List Event) (m : ℕ) (found : Passed)
       → moved R k x ≡ record { events = xs; selected = m } → chosenIn R xs ≡ chosenBy found
-      → answerOf (hear t map limit k x) ≡ answerIn found xs m
-  unfolding answerOf kept choice
+      → stepAnswer (hear t map limit k x) ≡ answerIn found xs m
+  unfolding stepAnswer kept choice
   step-answer k x xs m found e q =
       let c : chosenIn R (moved R k x .events) ≡ chosenBy found = ap (λ (y : Kept Event). chosenIn R (y .events)) e ∙ q in
       ap₂ (λ (y : Kept Event) (o : Option ℕ). answer y o) e c ∙ marked-answer found xs m
     where
       answer : Kept Event → Option ℕ → Answer
-      answer y o = record { matched = selection t map limit o; state = stateOf (marked R y o) }
+      answer y o = record { matched = selection t map limit o; state = stateKeeping (marked R y o) }
 
   chosen-in : (xs : List Event) → 0 < length xs → chosenIn R xs ≡ chosenBy (passed t map limit xs)
   chosen-in [] h = absurd (omega arith)
@@ -97,7 +97,7 @@ module _ (t : Table) (map : List ℕ) (limit : ℕ) where
 
   -- the context goes on
   pub goes-on : (k : Kept Event) (x : Event) (found : Passed) → found ≡ passed t map limit (grown R k x) → someReads found ≡ true
-      → answerOf (hear t map limit k x) ≡ answerIn found (grown R k x) (k .selected)
+      → stepAnswer (hear t map limit k x) ≡ answerIn found (grown R k x) (k .selected)
   goes-on k x found e q =
       let p : R .prefix (grown R k x) ≡ true = sym (passed-prefix t map limit (grown R k x)) ∙ ap someReads (sym e) ∙ q in
       let n : 0 < length (grown R k x) = omega (arith, length-append (k .events) (x ∷ [])) in
@@ -105,7 +105,7 @@ module _ (t : Table) (map : List ℕ) (limit : ℕ) where
 
   -- it does not
   pub moves-on : (k : Kept Event) (x : Event) (found : Passed) → found ≡ passed t map limit (grown R k x) → found ≡ Passed.No
-      → answerOf (hear t map limit k x) ≡ restarted t map limit (grown R k x) (k .selected)
+      → stepAnswer (hear t map limit k x) ≡ restarted t map limit (grown R k x) (k .selected)
   unfolding restarted
   moves-on k x found e q =
       let p : R .prefix (grown R k x) ≡ false = sym (passed-prefix t map limit (grown R k x)) ∙ ap someReads (sym e ∙ q) in
@@ -135,14 +135,14 @@ module _ (s : State) (f : StateFacts s) (x : Event) where
 
   -- the bytes with the event in the next slot
   abbrev pub grownBytes : List ℕ
-  grownBytes = putEvent (s .events) (s .kept) x
+  grownBytes = putSlot (s .events) (s .kept) x
 
   pub more-slots : grownBytes ≡ inSlots more
   more-slots =
       let n = length-kept s f in
       let m = f .few in
       let b : length (take (s .kept) (slotsOf (s .events))) < 25 = omega arith in
-      ap₂ (λ (q : List ℕ) (k : ℕ). putEvent q k x) (sym (slots-kept s f)) (sym n)
+      ap₂ (λ (q : List ℕ) (k : ℕ). putSlot q k x) (sym (slots-kept s f)) (sym n)
       ∙ put-more (take (s .kept) (slotsOf (s .events))) x b
 
   pub more-length : length more ≡ s .kept + 1
@@ -169,7 +169,7 @@ module _ (s : State) (f : StateFacts s) (x : Event) where
 
   -- what a walk along the grown stretch may rely on
   pub more-ready : (l map bytes : List ℕ) → whole l ≡ true → length map ≡ 496 → EventRanges x → bytes ≡ grownBytes
-      → Ready l map bytes (s .kept + 1)
+      → WalkReady l map bytes (s .kept + 1)
   more-ready l map bytes w m r e =
       let n = f .few in
       record {
@@ -184,7 +184,7 @@ module _ (s : State) (f : StateFacts s) (x : Event) where
   unfolding answerIn
   answer-more found = rw (more-slots, more-length)
 
-module _ (t : Table) (map : List ℕ) (limit : ℕ) (s : State) (f : StateFacts s) (x : Event) (bytes : List ℕ) (g : bytes ≡ putEvent (s .events) (s .kept) x) where
+module _ (t : Table) (map : List ℕ) (limit : ℕ) (s : State) (f : StateFacts s) (x : Event) (bytes : List ℕ) (g : bytes ≡ putSlot (s .events) (s .kept) x) where
   abbrev taken : List Event
   taken = take (s .kept + 1) (slotsOf bytes)
 
@@ -192,14 +192,14 @@ module _ (t : Table) (map : List ℕ) (limit : ℕ) (s : State) (f : StateFacts 
   taken-is = ap (λ (l : List ℕ). take (s .kept + 1) (slotsOf l)) g ∙ more-taken s f x
 
   pub heard-no : (found : Passed) → found ≡ passed t map limit taken → found ≡ Passed.No
-      → restarted t map limit taken (s .selected) ≡ answerOf (hear t map limit (keptOf s) x)
+      → restarted t map limit taken (s .selected) ≡ stepAnswer (hear t map limit (keptOf s) x)
   unfolding keptOf
   heard-no found e q =
       ap (λ (ys : List Event). restarted t map limit ys (s .selected)) taken-is
       ∙ sym (moves-on t map limit (keptOf s) x found (e ∙ ap (passed t map limit) taken-is) q)
 
   pub heard-yes : (found : Passed) → found ≡ passed t map limit taken → someReads found ≡ true
-      → answerWith found (s .kept + 1) (s .selected) bytes ≡ answerOf (hear t map limit (keptOf s) x)
+      → answerWith found (s .kept + 1) (s .selected) bytes ≡ stepAnswer (hear t map limit (keptOf s) x)
   unfolding keptOf
   heard-yes found e q =
       ap (answerWith found (s .kept + 1) (s .selected)) g

@@ -24,8 +24,8 @@ use Rattle.machine.proofs.Bounded.{stepped-bounded}
 use Rattle.tables.specs.Reading.{decode}
 use Rattle.tables.specs.Whole.{whole}
 use Rattle.matcher.specs.declared.state.State.{State}
-use Rattle.matcher.specs.State.{zeroEvent, keptOf, stateOf, wholeState}
-use Rattle.matcher.specs.Match.{answerOf, tooShort, matchNumber, callAnswer}
+use Rattle.matcher.specs.State.{zeroEvent, keptOf, stateKeeping, wholeState}
+use Rattle.matcher.specs.Match.{stepAnswer, tooShort, matchNumber, callAnswer}
 use Rattle.matcher.proofs.StateLaws.{InRanges, ranges-tail, ranges-more, state-facts, kept-ranges, kept-bounded, bounded-whole}
 
 -- ---- Events in range
@@ -84,7 +84,7 @@ module _ (t : Table) (map : List ℕ) (limit : ℕ) (k : Kept Event) (r : InRang
 
 -- the state after a step from a whole state
 pub step-whole : (t : Table) (map : List ℕ) (limit : ℕ) (s : State) (c : MatchCall) → wholeState s ≡ true
-    → wholeState (stateOf (stepped t map limit (keptOf s) c .next)) ≡ true
+    → wholeState (stateKeeping (stepped t map limit (keptOf s) c .next)) ≡ true
 step-whole t map limit s c w =
     let f = state-facts s w in
     bounded-whole (stepped t map limit (keptOf s) c .next)
@@ -103,7 +103,7 @@ not-is false q = absurd (false≢true (sym q))
 
 pub accepted-whole : (table map : List ℕ) (limit : ℕ) (s : State) (c : MatchCall)
     → matchNumber table map limit s c ≡ 0 → wholeState (callAnswer table map limit s c .state) ≡ true
-unfolding callAnswer matchNumber answerOf
+unfolding callAnswer matchNumber stepAnswer
 accepted-whole table map limit s c e =
     let q : eqb (matchNumber table map limit s c) 0 ≡ true = eq-eqb (matchNumber table map limit s c) 0 e in
     let w : wholeState s ≡ true

@@ -22,7 +22,7 @@ use Rattle.model.specs.declared.events.Event.{Event}
 use Rattle.machine.specs.Kept.{longestEnd, chosenIn}
 use Rattle.machine.proofs.Track.{longest-yes, longest-no}
 use Rattle.tables.specs.Layout.{productionEventsAt}
-use Rattle.tables.specs.Reading.{productionCount, eventCount, productionEvents, eventsFrom, eventAt, productionAt, decode}
+use Rattle.tables.specs.Reading.{productionTotal, eventTotal, productionEvents, firstEvent, eventEntry, productionEntry, decode}
 use Rattle.matcher.specs.declared.walk.Followed.{Followed}
 use Rattle.matcher.specs.declared.walk.Passed.{Passed}
 use Rattle.matcher.specs.State.{zeroEvent}
@@ -167,69 +167,69 @@ module _ (t : Table) (map : List ℕ) (limit : ℕ) where
 module _ (map : List ℕ) (limit : ℕ) (l : List ℕ) (xs : List Event) where
   -- what is left of it at production p
   pub onward : ℕ → Bool → Passed
-  onward p seen = passes (followed map limit xs) p seen (run (productionAt l) p (productionCount l - p))
+  onward p seen = passes (followed map limit xs) p seen (run (productionEntry l) p (productionTotal l - p))
 
   pub onward-start : passed (decode l) map limit xs ≡ onward 0 false
   unfolding onward passed decode
-  onward-start = let e : productionCount l - 0 ≡ productionCount l = omega arith in rw e
+  onward-start = let e : productionTotal l - 0 ≡ productionTotal l = omega arith in rw e
 
-  pub onward-end : (p : ℕ) (seen : Bool) → productionCount l ≤ p → onward p seen ≡ cond seen Passed.Prefix Passed.No
+  pub onward-end : (p : ℕ) (seen : Bool) → productionTotal l ≤ p → onward p seen ≡ cond seen Passed.Prefix Passed.No
   unfolding onward run passes
-  onward-end p seen h = let e : productionCount l - p ≡ 0 = omega arith in rw e
+  onward-end p seen h = let e : productionTotal l - p ≡ 0 = omega arith in rw e
 
-  onward-step : (p : ℕ) (seen : Bool) → p < productionCount l
-      → onward p seen ≡ passNext (followed map limit xs (productionAt l p)) p (onward (p + 1) seen) (onward (p + 1) true)
+  onward-step : (p : ℕ) (seen : Bool) → p < productionTotal l
+      → onward p seen ≡ passNext (followed map limit xs (productionEntry l p)) p (onward (p + 1) seen) (onward (p + 1) true)
   unfolding onward run passes
-  onward-step p seen h = let e : productionCount l - p ≡ suc (productionCount l - (p + 1)) = omega arith in rw (e, add-one)
+  onward-step p seen h = let e : productionTotal l - p ≡ suc (productionTotal l - (p + 1)) = omega arith in rw (e, add-one)
 
   -- the walk that the code makes for production p
   pub production-walk : (p : ℕ)
-      → followed map limit xs (productionAt l p)
-      ≡ walked map limit none none (expanded (run (eventAt l) (eventsFrom l p) (productionEvents l p))) xs
-  unfolding followed sequence productionAt
+      → followed map limit xs (productionEntry l p)
+      ≡ walked map limit none none (expanded (run (eventEntry l) (firstEvent l p) (productionEvents l p))) xs
+  unfolding followed sequence productionEntry
   production-walk p = refl
 
-  pub onward-no : (p : ℕ) (seen : Bool) (r : Followed) → p < productionCount l → r ≡ followed map limit xs (productionAt l p)
+  pub onward-no : (p : ℕ) (seen : Bool) (r : Followed) → p < productionTotal l → r ≡ followed map limit xs (productionEntry l p)
       → r ≡ Followed.No → onward p seen ≡ onward (p + 1) seen
   onward-no p seen r h e q =
       onward-step p seen h ∙ ap (λ (s : Followed). passNext s p (onward (p + 1) seen) (onward (p + 1) true)) (sym e ∙ q)
 
-  pub onward-prefix : (p : ℕ) (seen : Bool) (r : Followed) → p < productionCount l → r ≡ followed map limit xs (productionAt l p)
+  pub onward-prefix : (p : ℕ) (seen : Bool) (r : Followed) → p < productionTotal l → r ≡ followed map limit xs (productionEntry l p)
       → r ≡ Followed.Prefix → onward p seen ≡ onward (p + 1) true
   onward-prefix p seen r h e q =
       onward-step p seen h ∙ ap (λ (s : Followed). passNext s p (onward (p + 1) seen) (onward (p + 1) true)) (sym e ∙ q)
 
-  pub onward-whole : (p : ℕ) (seen : Bool) (r : Followed) → p < productionCount l → r ≡ followed map limit xs (productionAt l p)
+  pub onward-whole : (p : ℕ) (seen : Bool) (r : Followed) → p < productionTotal l → r ≡ followed map limit xs (productionEntry l p)
       → r ≡ Followed.Whole → onward p seen ≡ Passed.Chosen p
   onward-whole p seen r h e q =
       onward-step p seen h ∙ ap (λ (s : Followed). passNext s p (onward (p + 1) seen) (onward (p + 1) true)) (sym e ∙ q)
 
-pub next-events : (l : List ℕ) (p : ℕ) → eventsFrom l (p + 1) ≡ eventsFrom l p + productionEvents l p
-unfolding eventsFrom productionEvents
+pub next-events : (l : List ℕ) (p : ℕ) → firstEvent l (p + 1) ≡ firstEvent l p + productionEvents l p
+unfolding firstEvent productionEvents
 next-events l p = total-more (wordAt l) productionEventsAt p
 
-pub first-events : (l : List ℕ) → eventsFrom l 0 ≡ 0
-unfolding eventsFrom total
+pub first-events : (l : List ℕ) → firstEvent l 0 ≡ 0
+unfolding firstEvent total
 first-events l = refl
 
 -- productions that begin before a bound are stepped over
 pub skipped-start : (l : List ℕ) (low : ℕ) → Skipped l low 0 0
 skipped-start l low = record { most = omega arith; place = sym (first-events l); over = λ q h. absurd (omega arith) }
 
-pub skipped-step : (l : List ℕ) (low at p size : ℕ) → Skipped l low at p → at < low → p < productionCount l → size ≡ productionEvents l p
+pub skipped-step : (l : List ℕ) (low at p size : ℕ) → Skipped l low at p → at < low → p < productionTotal l → size ≡ productionEvents l p
     → Skipped l low (at + size) (p + 1)
 skipped-step l low at p size s h d e =
     record { most = omega arith; place = rw (s .place, e) (sym (next-events l p)); over = λ q k. go q k (eqb q p) refl }
   where
-    go : (q : ℕ) → q < p + 1 → (t : Bool) → eqb q p ≡ t → eventsFrom l q < low
+    go : (q : ℕ) → q < p + 1 → (t : Bool) → eqb q p ≡ t → firstEvent l q < low
     go q k true r = rw (eqb-true q p r, ← s .place) h
     go q k false r =
         let n : q ≡ p → ⊥ = eqb-false q p r in
         s .over q (omega arith)
 
 -- several productions have as many events as lie between
-events-span : (l : List ℕ) (p n : ℕ) → eventsFrom l (p + n) ≡ eventsFrom l p + total (productionEvents l) p n
-unfolding eventsFrom productionEvents
+events-span : (l : List ℕ) (p n : ℕ) → firstEvent l (p + n) ≡ firstEvent l p + total (productionEvents l) p n
+unfolding firstEvent productionEvents
 events-span l p n =
     total-add (wordAt l) productionEventsAt p n
     ∙ ap (λ (t : ℕ). total (wordAt l) productionEventsAt p + t) (total-same (wordAt l) (productionEvents l) (productionEventsAt + p) p n shifted)
@@ -237,55 +237,55 @@ events-span l p n =
     shifted : (i : ℕ) → i < n → wordAt l (productionEventsAt + p + i) ≡ wordAt l (productionEventsAt + (p + i))
     shifted i h = let e : productionEventsAt + p + i ≡ productionEventsAt + (p + i) = omega arith in ap (wordAt l) e
 
-events-past : (l : List ℕ) (at p n size : ℕ) → at ≡ eventsFrom l p → size ≡ total (productionEvents l) p n → at + size ≡ eventsFrom l (p + n)
+events-past : (l : List ℕ) (at p n size : ℕ) → at ≡ firstEvent l p → size ≡ total (productionEvents l) p n → at + size ≡ firstEvent l (p + n)
 events-past l at p n size q e = rw (q, e) (sym (events-span l p n))
 
 module _ (l : List ℕ) (f : TableFacts l) where
-  events-most : (p : ℕ) → p ≤ productionCount l → eventsFrom l p ≤ 256
+  events-most : (p : ℕ) → p ≤ productionTotal l → firstEvent l p ≤ 256
   events-most p h =
-      let e : p + (productionCount l - p) ≡ productionCount l = omega arith in
-      let s : eventsFrom l (productionCount l) ≡ eventsFrom l p + total (productionEvents l) p (productionCount l - p)
-      = ap (eventsFrom l) (sym e) ∙ events-span l p (productionCount l - p) in
+      let e : p + (productionTotal l - p) ≡ productionTotal l = omega arith in
+      let s : firstEvent l (productionTotal l) ≡ firstEvent l p + total (productionEvents l) p (productionTotal l - p)
+      = ap (firstEvent l) (sym e) ∙ events-span l p (productionTotal l - p) in
       omega (arith, f .sum, f .events)
 
-  pub past-most : (at p n size : ℕ) → at ≡ eventsFrom l p → p + n ≤ productionCount l → size ≡ total (productionEvents l) p n → at + size ≤ 256
+  pub past-most : (at p n size : ℕ) → at ≡ firstEvent l p → p + n ≤ productionTotal l → size ≡ total (productionEvents l) p n → at + size ≤ 256
   past-most at p n size q m e = omega (arith, events-past l at p n size q e, events-most (p + n) m)
 
   -- one more of them
-  pub span-most : (p n : ℕ) → p + n < productionCount l → total (productionEvents l) p n + productionEvents l (p + n) ≤ 256
+  pub span-most : (p n : ℕ) → p + n < productionTotal l → total (productionEvents l) p n + productionEvents l (p + n) ≤ 256
   span-most p n h = omega (arith, events-span l p n, f .within (p + n) h, f .events)
 
   -- each has an event, so it begins before the next
-  events-less : (q p : ℕ) → q < p → p ≤ productionCount l → eventsFrom l q < eventsFrom l p
-  unfolding eventsFrom productionEvents
+  events-less : (q p : ℕ) → q < p → p ≤ productionTotal l → firstEvent l q < firstEvent l p
+  unfolding firstEvent productionEvents
   events-less q p h m = omega (arith, total-part (wordAt l) productionEventsAt q p h, f .some q (omega arith))
 
-  pub skipped-leap : (low at p n size : ℕ) → Skipped l low at p → p + n ≤ productionCount l → size ≡ total (productionEvents l) p n
+  pub skipped-leap : (low at p n size : ℕ) → Skipped l low at p → p + n ≤ productionTotal l → size ≡ total (productionEvents l) p n
       → at + size ≤ low → Skipped l low (at + size) (p + n)
   skipped-leap low at p n size s m e h =
       record { most = m; place = there; over = λ q k. omega (arith, events-less q (p + n) k m, there) }
     where
-      there : at + size ≡ eventsFrom l (p + n)
+      there : at + size ≡ firstEvent l (p + n)
       there = events-past l at p n size (s .place) e
 
 -- where the pass stands: at production p, whose events begin at `at`
 module _ (map : List ℕ) (limit : ℕ) (l : List ℕ) (xs : List Event) where
   pub record Passing (seen : Bool) (at p : ℕ) : Type 0 where
-    pub low : p ≤ productionCount l
-    pub place : at ≡ eventsFrom l p
+    pub low : p ≤ productionTotal l
+    pub place : at ≡ firstEvent l p
     pub comes : passed (decode l) map limit xs ≡ onward map limit l xs p seen
 
   pub passing-start : Passing false 0 0
   passing-start = record { low = omega arith; place = sym (first-events l); comes = onward-start map limit l xs }
 
-  module _ (seen : Bool) (at p size : ℕ) (w : Passing seen at p) (h : p < productionCount l) (e : size ≡ productionEvents l p) where
+  module _ (seen : Bool) (at p size : ℕ) (w : Passing seen at p) (h : p < productionTotal l) (e : size ≡ productionEvents l p) where
     abbrev walk : Followed
-    walk = walked map limit none none (expanded (run (eventAt l) at size)) xs
+    walk = walked map limit none none (expanded (run (eventEntry l) at size)) xs
 
-    walk-is : walk ≡ followed map limit xs (productionAt l p)
+    walk-is : walk ≡ followed map limit xs (productionEntry l p)
     walk-is = rw (w .place, e) (sym (production-walk map limit l xs p))
 
-    placed : at + size ≡ eventsFrom l (p + 1)
+    placed : at + size ≡ firstEvent l (p + 1)
     placed = rw (w .place, e) (sym (next-events l p))
 
     pub passing-no : (r : Followed) → r ≡ walk → r ≡ Followed.No → Passing seen (at + size) (p + 1)
@@ -299,50 +299,50 @@ module _ (map : List ℕ) (limit : ℕ) (l : List ℕ) (xs : List Event) where
     pub passing-whole : (r : Followed) → r ≡ walk → r ≡ Followed.Whole → passed (decode l) map limit xs ≡ Passed.Chosen p
     passing-whole r q n = w .comes ∙ onward-whole map limit l xs p seen r h (q ∙ walk-is) n
 
-  pub passing-end : (seen : Bool) (at p : ℕ) → Passing seen at p → productionCount l ≤ p
+  pub passing-end : (seen : Bool) (at p : ℕ) → Passing seen at p → productionTotal l ≤ p
       → passed (decode l) map limit xs ≡ cond seen Passed.Prefix Passed.No
   passing-end seen at p w h = w .comes ∙ onward-end map limit l xs p seen h
 
   -- productions before the bounds
   module _ (low high : ℕ) (f : TableFacts l) (o : Outside l map xs low high) where
-    outside-low : (p : ℕ) → p < productionCount l → eventsFrom l p < low → followed map limit xs (productionAt l p) ≡ Followed.No
+    outside-low : (p : ℕ) → p < productionTotal l → firstEvent l p < low → followed map limit xs (productionEntry l p) ≡ Followed.No
     outside-low p h b =
         production-walk map limit l xs p
-        ∙ o .before limit (eventsFrom l p) (productionEvents l p) (f .some p h) (f .within p h) b
+        ∙ o .before limit (firstEvent l p) (productionEvents l p) (f .some p h) (f .within p h) b
 
-    onward-over : (p : ℕ) → p ≤ productionCount l → ((q : ℕ) → q < p → eventsFrom l q < low)
+    onward-over : (p : ℕ) → p ≤ productionTotal l → ((q : ℕ) → q < p → firstEvent l q < low)
         → passed (decode l) map limit xs ≡ onward map limit l xs p false
     onward-over zero h b = onward-start map limit l xs
     onward-over (suc p) h b =
-        let d : p < productionCount l = omega arith in
-        let a : eventsFrom l p < low = b p (omega arith) in
+        let d : p < productionTotal l = omega arith in
+        let a : firstEvent l p < low = b p (omega arith) in
         rw (← add-one)
         (onward-over p (omega arith) (λ q c. b q (omega arith))
-        ∙ onward-no map limit l xs p false (followed map limit xs (productionAt l p)) d refl (outside-low p d a))
+        ∙ onward-no map limit l xs p false (followed map limit xs (productionEntry l p)) d refl (outside-low p d a))
 
     pub passing-over : (at p : ℕ) → Skipped l low at p → Passing false at p
     passing-over at p s = record { low = s .most; place = s .place; comes = onward-over p (s .most) (s .over) }
 
     -- and past them
-    outside-high : (p : ℕ) → p < productionCount l → high ≤ eventsFrom l p → followed map limit xs (productionAt l p) ≡ Followed.No
+    outside-high : (p : ℕ) → p < productionTotal l → high ≤ firstEvent l p → followed map limit xs (productionEntry l p) ≡ Followed.No
     outside-high p h b =
         production-walk map limit l xs p
-        ∙ o .after limit (eventsFrom l p) (productionEvents l p) (f .some p h) (f .within p h) b
+        ∙ o .after limit (firstEvent l p) (productionEvents l p) (f .some p h) (f .within p h) b
 
-    onward-past : (seen : Bool) (k p : ℕ) → p + k ≡ productionCount l → high ≤ eventsFrom l p
+    onward-past : (seen : Bool) (k p : ℕ) → p + k ≡ productionTotal l → high ≤ firstEvent l p
         → onward map limit l xs p seen ≡ cond seen Passed.Prefix Passed.No
     onward-past seen zero p e b = onward-end map limit l xs p seen (omega arith)
     onward-past seen (suc k) p e b =
-        let d : p < productionCount l = omega arith in
-        let n : high ≤ eventsFrom l (p + 1) = omega (arith, next-events l p) in
-        onward-no map limit l xs p seen (followed map limit xs (productionAt l p)) d refl (outside-high p d b)
+        let d : p < productionTotal l = omega arith in
+        let n : high ≤ firstEvent l (p + 1) = omega (arith, next-events l p) in
+        onward-no map limit l xs p seen (followed map limit xs (productionEntry l p)) d refl (outside-high p d b)
         ∙ onward-past seen k (p + 1) (omega arith) n
 
     pub passing-past : (seen : Bool) (at p : ℕ) → Passing seen at p → high ≤ at
         → passed (decode l) map limit xs ≡ cond seen Passed.Prefix Passed.No
     passing-past seen at p w h =
         let l₀ = w .low in
-        w .comes ∙ onward-past seen (productionCount l - p) p (omega arith) (rw (← w .place) h)
+        w .comes ∙ onward-past seen (productionTotal l - p) p (omega arith) (rw (← w .place) h)
 
 -- ---- The smallest start
 
@@ -383,17 +383,17 @@ module _ (t : Table) (map : List ℕ) (limit : ℕ) (events : List Event) (to : 
 
 -- a production's events are among the table's
 pub record Place (l : List ℕ) (at p size : ℕ) : Type 0 where
-  pub there : p < productionCount l
+  pub there : p < productionTotal l
   pub few : p < 64
   pub isSize : size ≡ productionEvents l p
   pub some : 1 ≤ size
-  pub within : at + size ≤ eventCount l
+  pub within : at + size ≤ eventTotal l
   pub small : at + size ≤ 256
 
-pub place-of : (l : List ℕ) → TableFacts l → (at p size n : ℕ) → n ≡ productionCount l → p < n → at ≡ eventsFrom l p
+pub place-of : (l : List ℕ) → TableFacts l → (at p size n : ℕ) → n ≡ productionTotal l → p < n → at ≡ firstEvent l p
     → size ≡ productionEvents l p → Place l at p size
 place-of l f at p size n c h e s =
-    let t : p < productionCount l = omega arith in
+    let t : p < productionTotal l = omega arith in
     let w = f .within p t in
     let o = f .some p t in
     let m = f .events in

@@ -16,7 +16,7 @@ use Rattle.words.proofs.Laws.{length-zeros, getD-zeros, zeros-add}
 use Rattle.words.proofs.RunLaws.{length-run, getD-run, run-append, run-last, run-list}
 use Rattle.keyboard.specs.Maps.{numberFrom}
 use Rattle.model.specs.declared.events.Event.{Event}
-use Rattle.matcher.specs.State.{zeroEvent, slots, eventBytes, eventFrom, eventIn, slotsOf, putEvent, bytesOf, inSlots, lowBytes}
+use Rattle.matcher.specs.State.{zeroEvent, slots, eventBytes, eventFrom, eventIn, slotsOf, putSlot, eventsBytes, inSlots, lowBytes}
 
 -- ---- The slots of bytes
 
@@ -101,8 +101,8 @@ pub stores : (l : List ℕ) (j : ℕ) (x : Event)
     (8 * j + 5) (x .time / 256 % 256))
     (8 * j + 6) (x .time / 65536 % 256))
     (8 * j + 7) (x .time / 16777216)
-    ≡ putEvent l j x
-unfolding putEvent eventBytes
+    ≡ putSlot l j x
+unfolding putSlot eventBytes
 stores l j x =
     let a : 8 * j + 1 ≡ suc (8 * j) = omega arith in
     let b : 8 * j + 2 ≡ suc (suc (8 * j)) = omega arith in
@@ -119,22 +119,22 @@ length-event : (x : Event) → length (eventBytes x) ≡ 8
 unfolding eventBytes
 length-event x = refl
 
-length-bytes : (xs : List Event) → length (bytesOf xs) ≡ 8 * length xs
-unfolding bytesOf
+length-bytes : (xs : List Event) → length (eventsBytes xs) ≡ 8 * length xs
+unfolding eventsBytes
 length-bytes [] = refl
 length-bytes (x ∷ xs) =
-    omega (arith, length-append (eventBytes x) (bytesOf xs), length-event x, length-bytes xs)
+    omega (arith, length-append (eventBytes x) (eventsBytes xs), length-event x, length-bytes xs)
 
-bytes-append : (xs ys : List Event) → bytesOf (xs ++ ys) ≡ bytesOf xs ++ bytesOf ys
-unfolding bytesOf
+bytes-append : (xs ys : List Event) → eventsBytes (xs ++ ys) ≡ eventsBytes xs ++ eventsBytes ys
+unfolding eventsBytes
 bytes-append [] ys = refl
 bytes-append (x ∷ xs) ys =
-    ap (λ (r : List ℕ). eventBytes x ++ r) (bytes-append xs ys) ∙ sym (append-assoc (eventBytes x) (bytesOf xs) (bytesOf ys))
+    ap (λ (r : List ℕ). eventBytes x ++ r) (bytes-append xs ys) ∙ sym (append-assoc (eventBytes x) (eventsBytes xs) (eventsBytes ys))
 
 pub length-in : (xs : List Event) → length xs ≤ 25 → length (inSlots xs) ≡ 200
 unfolding inSlots
 length-in xs h =
-    omega (arith, length-append (bytesOf xs) (zeros (200 - 8 * length xs)), length-bytes xs, length-zeros (200 - 8 * length xs))
+    omega (arith, length-append (eventsBytes xs) (zeros (200 - 8 * length xs)), length-bytes xs, length-zeros (200 - 8 * length xs))
 
 drop-event : (x : Event) (r : List ℕ) (i : ℕ) → drop (8 * suc i) (eventBytes x ++ r) ≡ drop (8 * i) r
 unfolding eventBytes
@@ -142,30 +142,30 @@ drop-event x r i =
     let e : 8 * suc i ≡ suc (suc (suc (suc (suc (suc (suc (suc (8 * i)))))))) = omega arith in
     rw e
 
-event-among : (xs : List Event) (r : List ℕ) (i : ℕ) → i < length xs → eventIn (bytesOf xs ++ r) i ≡ getD xs i zeroEvent
-unfolding eventIn bytesOf
+event-among : (xs : List Event) (r : List ℕ) (i : ℕ) → i < length xs → eventIn (eventsBytes xs ++ r) i ≡ getD xs i zeroEvent
+unfolding eventIn eventsBytes
 event-among [] r i h = absurd (omega arith)
-event-among (x ∷ xs) r zero h = ap eventFrom (append-assoc (eventBytes x) (bytesOf xs) r) ∙ read-stored x (bytesOf xs ++ r)
+event-among (x ∷ xs) r zero h = ap eventFrom (append-assoc (eventBytes x) (eventsBytes xs) r) ∙ read-stored x (eventsBytes xs ++ r)
 event-among (x ∷ xs) r (suc i) h =
-    ap (λ (l : List ℕ). eventFrom (drop (8 * suc i) l)) (append-assoc (eventBytes x) (bytesOf xs) r)
-    ∙ ap eventFrom (drop-event x (bytesOf xs ++ r) i)
+    ap (λ (l : List ℕ). eventFrom (drop (8 * suc i) l)) (append-assoc (eventBytes x) (eventsBytes xs) r)
+    ∙ ap eventFrom (drop-event x (eventsBytes xs ++ r) i)
     ∙ event-among xs r i (omega arith)
 
 bytes-among : (xs : List Event) (r : List ℕ) (i : ℕ) → i < length xs
-    → take 8 (drop (8 * i) (bytesOf xs ++ r)) ≡ eventBytes (getD xs i zeroEvent)
-unfolding bytesOf eventBytes
+    → take 8 (drop (8 * i) (eventsBytes xs ++ r)) ≡ eventBytes (getD xs i zeroEvent)
+unfolding eventsBytes eventBytes
 bytes-among [] r i h = absurd (omega arith)
 bytes-among (x ∷ xs) r zero h = refl
 bytes-among (x ∷ xs) r (suc i) h =
-    ap (λ (l : List ℕ). take 8 (drop (8 * suc i) l)) (append-assoc (eventBytes x) (bytesOf xs) r)
-    ∙ ap (take 8) (drop-event x (bytesOf xs ++ r) i)
+    ap (λ (l : List ℕ). take 8 (drop (8 * suc i) l)) (append-assoc (eventBytes x) (eventsBytes xs) r)
+    ∙ ap (take 8) (drop-event x (eventsBytes xs ++ r) i)
     ∙ bytes-among xs r i (omega arith)
 
 byte-among : (xs : List Event) (i k : ℕ) → i < length xs → k < 8
     → getD (inSlots xs) (8 * i + k) 0 ≡ getD (eventBytes (getD xs i zeroEvent)) k 0
 unfolding inSlots
 byte-among xs i k h b =
-    sym (getD-take 8 (drop (8 * i) (bytesOf xs ++ zeros (200 - 8 * length xs))) k 0 b ∙ getD-drop (8 * i) (bytesOf xs ++ zeros (200 - 8 * length xs)) k 0)
+    sym (getD-take 8 (drop (8 * i) (eventsBytes xs ++ zeros (200 - 8 * length xs))) k 0 b ∙ getD-drop (8 * i) (eventsBytes xs ++ zeros (200 - 8 * length xs)) k 0)
     ∙ ap (λ (l : List ℕ). getD l k 0) (bytes-among xs (zeros (200 - 8 * length xs)) i h)
 
 -- the events that are in the slots
@@ -184,9 +184,9 @@ pub byte-unused : (xs : List Event) (k : ℕ) → 8 * length xs ≤ k → getD (
 unfolding inSlots
 byte-unused xs k h =
     let n = length-bytes xs in
-    let e : k ≡ length (bytesOf xs) + (k - 8 * length xs) = omega arith in
-    ap (λ (m : ℕ). getD (bytesOf xs ++ zeros (200 - 8 * length xs)) m 0) e
-    ∙ getD-append-add (bytesOf xs) (zeros (200 - 8 * length xs)) (k - 8 * length xs) 0
+    let e : k ≡ length (eventsBytes xs) + (k - 8 * length xs) = omega arith in
+    ap (λ (m : ℕ). getD (eventsBytes xs ++ zeros (200 - 8 * length xs)) m 0) e
+    ∙ getD-append-add (eventsBytes xs) (zeros (200 - 8 * length xs)) (k - 8 * length xs) 0
     ∙ getD-zeros (200 - 8 * length xs) (k - 8 * length xs)
 
 drop-zeros : (r : List ℕ) → drop 8 (zeros 8 ++ r) ≡ r
@@ -194,24 +194,24 @@ unfolding zeros
 drop-zeros r = refl
 
 -- one event more
-pub put-more : (xs : List Event) (x : Event) → length xs < 25 → putEvent (inSlots xs) (length xs) x ≡ inSlots (xs ++ (x ∷ []))
-unfolding putEvent inSlots bytesOf
+pub put-more : (xs : List Event) (x : Event) → length xs < 25 → putSlot (inSlots xs) (length xs) x ≡ inSlots (xs ++ (x ∷ []))
+unfolding putSlot inSlots eventsBytes
 put-more xs x h =
-    let n : length (bytesOf xs) ≡ 8 * length xs = length-bytes xs in
+    let n : length (eventsBytes xs) ≡ 8 * length xs = length-bytes xs in
     let m : length (xs ++ (x ∷ [])) ≡ length xs + 1 = length-append xs (x ∷ []) in
     let o : 200 - 8 * length xs ≡ 8 + (200 - 8 * length (xs ++ (x ∷ []))) = omega arith in
     let z : zeros (200 - 8 * length xs) ≡ zeros 8 ++ zeros (200 - 8 * length (xs ++ (x ∷ [])))
     = ap zeros o ∙ sym (zeros-add 8 (200 - 8 * length (xs ++ (x ∷ [])))) in
     let b : 8 * length xs + length (eventBytes x) ≤ length (inSlots xs) = omega (arith, length-in xs (omega arith), length-event x) in
-    let d : 8 * length xs + length (eventBytes x) ≡ length (bytesOf xs) + 8 = omega (arith, length-event x) in
+    let d : 8 * length xs + length (eventBytes x) ≡ length (eventsBytes xs) + 8 = omega (arith, length-event x) in
     sets-eq (eventBytes x) (inSlots xs) (8 * length xs) b
     ∙ ap₂ (λ (p q : List ℕ). p ++ eventBytes x ++ q)
-    (take-at (bytesOf xs) (zeros (200 - 8 * length xs)) (8 * length xs) n)
-    (ap (λ (k : ℕ). drop k (bytesOf xs ++ zeros (200 - 8 * length xs))) d
-    ∙ drop-append-add (bytesOf xs) (zeros (200 - 8 * length xs)) 8
+    (take-at (eventsBytes xs) (zeros (200 - 8 * length xs)) (8 * length xs) n)
+    (ap (λ (k : ℕ). drop k (eventsBytes xs ++ zeros (200 - 8 * length xs))) d
+    ∙ drop-append-add (eventsBytes xs) (zeros (200 - 8 * length xs)) 8
     ∙ ap (drop 8) z ∙ drop-zeros (zeros (200 - 8 * length (xs ++ (x ∷ [])))))
     ∙ ap (λ (l : List ℕ). l ++ zeros (200 - 8 * length (xs ++ (x ∷ []))))
-    (ap (λ (l : List ℕ). bytesOf xs ++ l) (sym (append-nil (eventBytes x))) ∙ sym (bytes-append xs (x ∷ [])))
+    (ap (λ (l : List ℕ). eventsBytes xs ++ l) (sym (append-nil (eventBytes x))) ∙ sym (bytes-append xs (x ∷ [])))
 
 -- ---- Bytes in which events are read
 
@@ -277,15 +277,15 @@ slot-bytes l n m o =
     (rw (getD-drop (8 * n) l 5 0) (o .fifth)) (rw (getD-drop (8 * n) l 6 0) (o .sixth))
 
 bytes-read : (l : List ℕ) (n : ℕ) → 8 * n ≤ length l → ((i : ℕ) → i < n → lowBytes l i ≡ true)
-    → bytesOf (run (eventIn l) 0 n) ≡ take (8 * n) l
-unfolding bytesOf run
+    → eventsBytes (run (eventIn l) 0 n) ≡ take (8 * n) l
+unfolding eventsBytes run
 bytes-read l zero h w = refl
 bytes-read l (suc n) h w =
     let m : 8 ≤ length (drop (8 * n) l) = omega (arith, length-drop (8 * n) l) in
     let o = low-parts l n (w n (omega arith)) in
     let e : 8 * suc n ≡ 8 * n + 8 = omega arith in
     let r : eventBytes (eventIn l n) ≡ take 8 (drop (8 * n) l) = slot-bytes l n m o in
-    ap bytesOf (run-last (eventIn l) 0 n ∙ ap (λ (k : ℕ). run (eventIn l) 0 n ++ (eventIn l k ∷ [])) (zero-add n))
+    ap eventsBytes (run-last (eventIn l) 0 n ∙ ap (λ (k : ℕ). run (eventIn l) 0 n ++ (eventIn l k ∷ [])) (zero-add n))
     ∙ bytes-append (run (eventIn l) 0 n) (eventIn l n ∷ [])
     ∙ ap₂ (λ (p q : List ℕ). p ++ q) (bytes-read l n (omega arith) (λ i b. w i (omega arith))) (append-nil (eventBytes (eventIn l n)) ∙ r)
     ∙ sym (ap (λ (k : ℕ). take k l) e ∙ take-add (8 * n) 8 l)
@@ -296,7 +296,7 @@ pub slots-read : (l : List ℕ) (n : ℕ) → length l ≡ 200 → n ≤ 25 → 
 unfolding inSlots
 slots-read l n h m w z =
     let c : length (take n (slotsOf l)) ≡ n = length-take-le n (slotsOf l) (omega (arith, length-slots l)) in
-    ap₂ (λ (p : List ℕ) (k : ℕ). p ++ zeros (200 - 8 * k)) (ap bytesOf (first-slots l n m) ∙ bytes-read l n (omega arith) w) c
+    ap₂ (λ (p : List ℕ) (k : ℕ). p ++ zeros (200 - 8 * k)) (ap eventsBytes (first-slots l n m) ∙ bytes-read l n (omega arith) w) c
     ∙ ap (λ (p : List ℕ). take (8 * n) l ++ p) rest
     ∙ take-append-drop (8 * n) l
   where

@@ -16,7 +16,7 @@ use Rattle.records.specs.Ranges.{EventRanges}
 use Rattle.model.specs.declared.events.Event.{Event}
 use Rattle.machine.specs.Kept.{Kept, Bounded, fresh}
 use Rattle.matcher.specs.declared.state.State.{State}
-use Rattle.matcher.specs.State.{zeroEvent, slotBytes, eventIn, slotsOf, keptOf, inSlots, stateWith, stateOf, freshState, eventWhole, lowBytes, usedWhole, byteZero, slotsWhole, marksWhole, wholeState}
+use Rattle.matcher.specs.State.{zeroEvent, slotBytes, eventIn, slotsOf, keptOf, inSlots, stateWith, stateKeeping, freshState, eventWhole, lowBytes, usedWhole, byteZero, slotsWhole, marksWhole, wholeState}
 use Rattle.matcher.proofs.SlotLaws.{length-slots, in-slot, length-in, slot-used, take-slots, byte-unused, low-used, slots-read}
 
 -- ---- One slot
@@ -149,9 +149,9 @@ kept-path a b p q = λ i. record { events = p i; selected = q i }
 state-path : (a b : State) → a .kept ≡ b .kept → a .selected ≡ b .selected → a .«open» ≡ b .«open» → a .events ≡ b .events → a ≡ b
 state-path a b p q r t = λ i. record { kept = p i; selected = q i; «open» = r i; events = t i }
 
-pub kept-state : (k : Kept Event) → length (k .events) ≤ 25 → keptOf (stateOf k) ≡ k
-unfolding keptOf stateOf stateWith
-kept-state k h = kept-path (keptOf (stateOf k)) k (take-slots (k .events) h) refl
+pub kept-state : (k : Kept Event) → length (k .events) ≤ 25 → keptOf (stateKeeping k) ≡ k
+unfolding keptOf stateKeeping stateWith
+kept-state k h = kept-path (keptOf (stateKeeping k)) k (take-slots (k .events) h) refl
 
 module _ (s : State) (f : StateFacts s) where
   pub length-kept : length (take (s .kept) (slotsOf (s .events))) ≡ s .kept
@@ -161,10 +161,10 @@ module _ (s : State) (f : StateFacts s) where
   pub slots-kept : inSlots (take (s .kept) (slotsOf (s .events))) ≡ s .events
   slots-kept = let m = f .few in slots-read (s .events) (s .kept) (f .long) (omega arith) (f .low) (f .unused)
 
-  pub state-kept : stateOf (keptOf s) ≡ s
-  unfolding keptOf stateOf stateWith
+  pub state-kept : stateKeeping (keptOf s) ≡ s
+  unfolding keptOf stateKeeping stateWith
   state-kept =
-      state-path (stateOf (keptOf s)) s length-kept refl
+      state-path (stateKeeping (keptOf s)) s length-kept refl
       (ap (λ (n : ℕ). not (eqb n 0)) length-kept ∙ sym (f .isOpen))
       slots-kept
 
@@ -183,11 +183,11 @@ ranges-more [] x r e (suc i) h = absurd (omega arith)
 ranges-more (y ∷ ys) x r e zero h = r zero (omega arith)
 ranges-more (y ∷ ys) x r e (suc i) h = ranges-more ys x (ranges-tail y ys r) e i (omega arith)
 
-pub bounded-whole : (k : Kept Event) → Bounded k → InRanges (k .events) → wholeState (stateOf k) ≡ true
-unfolding stateOf stateWith
+pub bounded-whole : (k : Kept Event) → Bounded k → InRanges (k .events) → wholeState (stateKeeping k) ≡ true
+unfolding stateKeeping stateWith
 bounded-whole k b r =
     let m = b .few in
-    facts-state (stateOf k) (
+    facts-state (stateKeeping k) (
     record {
       long = length-in (k .events) (omega arith);
       few = b .few;
@@ -221,5 +221,5 @@ unfolding keptOf stateWith
 fresh-kept = refl
 
 pub fresh-whole : wholeState freshState ≡ true
-unfolding stateOf
+unfolding stateKeeping
 fresh-whole = bounded-whole fresh (record { few = omega arith; within = omega arith }) (λ i h. absurd (omega arith))

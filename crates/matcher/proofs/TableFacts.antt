@@ -11,8 +11,8 @@ use lib.ListN.{length}
 use Rattle.words.specs.Words.{wordAt}
 use Rattle.words.proofs.Bools.{and-left}
 use Rattle.model.specs.Compiling.{passesLimit}
-use Rattle.tables.specs.Layout.{codesAt, countsAt, setsAt, clearsAt, flagsAt, lowsAt, highsAt}
-use Rattle.tables.specs.Reading.{productionCount, eventCount, productionEvents, eventsFrom, isFlag, eventOf, eventAt, decode}
+use Rattle.tables.specs.Layout.{codesAt, countsAt, setsAt, clearsAt, flagsAt, lowsAt, highsAt, tableLength}
+use Rattle.tables.specs.Reading.{productionTotal, eventTotal, productionEvents, firstEvent, isFlag, eventFromWords, eventEntry, decode}
 use Rattle.tables.specs.Checks.{eventOk}
 use Rattle.tables.specs.Whole.{whole}
 use Rattle.matcher.specs.Walk.{flagsIn}
@@ -23,28 +23,28 @@ use Rattle.tables.proofs.Theorems.{whole-holds}
 use Rattle.tables.proofs.Exact.{whole-facts}
 
 pub record EntryFacts (l : List ℕ) (i : ℕ) : Type 0 where
-  pub codeLow : 2 ≤ eventAt l i .code
-  pub codeHigh : eventAt l i .code ≤ 34
-  pub countLow : 1 ≤ eventAt l i .count
-  pub countHigh : eventAt l i .count ≤ 9
+  pub codeLow : 2 ≤ eventEntry l i .code
+  pub codeHigh : eventEntry l i .code ≤ 34
+  pub countLow : 1 ≤ eventEntry l i .count
+  pub countHigh : eventEntry l i .count ≤ 9
   -- only keys and buttons are counted
-  pub counted : (leb (eventAt l i .count) 1 || leb (eventAt l i .code) 5) ≡ true
-  pub setBelow : eventAt l i .set < 8192
-  pub clearBelow : eventAt l i .clear < 8192
+  pub counted : (leb (eventEntry l i .count) 1 || leb (eventEntry l i .code) 5) ≡ true
+  pub setBelow : eventEntry l i .set < 8192
+  pub clearBelow : eventEntry l i .clear < 8192
   -- the words of the code and the count
-  pub codeWord : wordAt l (codesAt + i) ≡ eventAt l i .code
-  pub countWord : wordAt l (countsAt + i) ≡ eventAt l i .count
+  pub codeWord : wordAt l (codesAt + i) ≡ eventEntry l i .code
+  pub countWord : wordAt l (countsAt + i) ≡ eventEntry l i .count
   -- where no detail is asked for
   pub bare : isFlag 4 (flagsIn l i) ≡ false → wordAt l (lowsAt + i) ≡ 0
 
 pub record TableFacts (l : List ℕ) : Type 0 where
-  pub long : 5904 ≤ length l
-  pub productions : productionCount l ≤ 64
-  pub events : eventCount l ≤ 256
-  pub entry : (i : ℕ) → i < eventCount l → EntryFacts l i
-  pub within : (p : ℕ) → p < productionCount l → eventsFrom l p + productionEvents l p ≤ eventCount l
-  pub some : (p : ℕ) → p < productionCount l → 1 ≤ productionEvents l p
-  pub sum : eventsFrom l (productionCount l) ≡ eventCount l
+  pub long : tableLength ≤ length l
+  pub productions : productionTotal l ≤ 64
+  pub events : eventTotal l ≤ 256
+  pub entry : (i : ℕ) → i < eventTotal l → EntryFacts l i
+  pub within : (p : ℕ) → p < productionTotal l → firstEvent l p + productionEvents l p ≤ eventTotal l
+  pub some : (p : ℕ) → p < productionTotal l → 1 ≤ productionEvents l p
+  pub sum : firstEvent l (productionTotal l) ≡ eventTotal l
   pub limit : passesLimit (decode l .productions) ≡ false
 
 bare-low : (flags low high : ℕ) → flags < 8 → (leb 4 flags || (eqb low 0 && eqb high 0)) ≡ true → isFlag 4 flags ≡ false → low ≡ 0
@@ -55,7 +55,7 @@ bare-low flags low high h d q =
     eqb-true low 0 (and-left (eqb low 0) (eqb high 0) e)
 
 entry-facts : (l : List ℕ) (i : ℕ) → eventOk l i ≡ true → EntryFacts l i
-unfolding eventOk eventAt eventOf flagsIn
+unfolding eventOk eventEntry eventFromWords flagsIn
 entry-facts l i q =
     let f : EventFacts (wordAt l (codesAt + i)) (wordAt l (countsAt + i)) (wordAt l (setsAt + i)) (wordAt l (clearsAt + i)) (wordAt l (flagsAt + i)) (wordAt l (lowsAt + i)) (wordAt l (highsAt + i))
     = event-facts (wordAt l (codesAt + i)) (wordAt l (countsAt + i)) (wordAt l (setsAt + i)) (wordAt l (clearsAt + i)) (wordAt l (flagsAt + i)) (wordAt l (lowsAt + i)) (wordAt l (highsAt + i)) q in
@@ -75,7 +75,7 @@ entry-facts l i q =
     }
 
 pub table-facts : (l : List ℕ) → whole l ≡ true → TableFacts l
-unfolding productionCount eventCount productionEvents eventsFrom
+unfolding productionTotal eventTotal productionEvents firstEvent
 table-facts l q =
     let f : CheckFacts l = whole-facts l q in
     record {

@@ -17,8 +17,8 @@ use Rattle.model.specs.Tables.{Production}
 use Rattle.model.specs.Counts.{Element, element, isRelease, releasePress, pressRelease, countedPress, countedRelease, elementsAt, elementsOf, expanded, sequence}
 use Rattle.model.specs.Matching.{hasType}
 use Rattle.model.specs.declared.events.KeptEvent.{KeptEvent}
-use Rattle.tables.specs.Layout.{productionEventsAt, flat, eventsOf}
-use Rattle.tables.specs.Reading.{productionCount, eventCount, productionEvents, eventsFrom, eventAt, productionAt, decode}
+use Rattle.tables.specs.Layout.{productionEventsAt, flat, allEvents}
+use Rattle.tables.specs.Reading.{productionTotal, eventTotal, productionEvents, firstEvent, eventEntry, productionEntry, decode}
 use Rattle.tables.proofs.Lists.{flat-runs}
 use Rattle.matcher.specs.Types.{anyBelow, otherCode, eventHas, hasCode, hasEither}
 use Rattle.matcher.proofs.TableFacts.{EntryFacts, TableFacts}
@@ -175,58 +175,58 @@ module _ (code : ℕ) where
   expanded-have (e ∷ es) =
       any-append has (elementsOf e) (expanded es) ∙ ap (λ (b : Bool). any has (elementsOf e) || b) (expanded-have es)
 
-  flat-have : (ps : List Production) → any (hasType code) ps ≡ any eventHasType (eventsOf ps)
+  flat-have : (ps : List Production) → any (hasType code) ps ≡ any eventHasType (allEvents ps)
   unfolding hasType sequence flat
   flat-have [] = refl
   flat-have (p ∷ ps) =
       ap₂ _||_ (expanded-have (p .events)) (flat-have ps)
-      ∙ sym (any-append eventHasType (p .events) (eventsOf ps))
+      ∙ sym (any-append eventHasType (p .events) (allEvents ps))
 
   module _ (l : List ℕ) (f : TableFacts l) where
-    events-flat : eventsOf (decode l .productions) ≡ run (eventAt l) 0 (eventCount l)
-    unfolding decode productionAt eventsFrom productionEvents
+    events-flat : allEvents (decode l .productions) ≡ run (eventEntry l) 0 (eventTotal l)
+    unfolding decode productionEntry firstEvent productionEvents
     events-flat =
-        flat-runs (λ (p : Production). p .events) (productionAt l) (eventAt l) (wordAt l) productionEventsAt (productionCount l) (λ p. refl)
-        ∙ ap (run (eventAt l) 0) (f .sum)
+        flat-runs (λ (p : Production). p .events) (productionEntry l) (eventEntry l) (wordAt l) productionEventsAt (productionTotal l) (λ p. refl)
+        ∙ ap (run (eventEntry l) 0) (f .sum)
 
     -- what the first i events have
     sofar : ℕ → Bool
-    sofar i = any eventHasType (run (eventAt l) 0 i)
+    sofar i = any eventHasType (run (eventEntry l) 0 i)
 
-    sofar-more : (i : ℕ) → i < eventCount l → sofar (i + 1) ≡ sofar i || eventHas (eventAt l i .code) (eventAt l i .count) code
+    sofar-more : (i : ℕ) → i < eventTotal l → sofar (i + 1) ≡ sofar i || eventHas (eventEntry l i .code) (eventEntry l i .count) code
     unfolding sofar
     sofar-more i h =
         let e : EntryFacts l i = f .entry i h in
         rw (run-more, any-append, zero-add)
-        (ap (λ (b : Bool). any eventHasType (run (eventAt l) 0 i) || b)
-        (or-false (eventHasType (eventAt l i)) ∙ elements-have (eventAt l i) (e .codeLow) (e .counted)))
+        (ap (λ (b : Bool). any eventHasType (run (eventEntry l) 0 i) || b)
+        (or-false (eventHasType (eventEntry l i)) ∙ elements-have (eventEntry l i) (e .codeLow) (e .counted)))
 
-    sofar-all : sofar (eventCount l) ≡ any (hasType code) (decode l .productions)
+    sofar-all : sofar (eventTotal l) ≡ any (hasType code) (decode l .productions)
     unfolding sofar
     sofar-all = ap (any eventHasType) (sym events-flat) ∙ sym (flat-have (decode l .productions))
 
     -- a test that finds the events that have the code
-    module _ (test : ℕ → Bool) (t : (i : ℕ) → i < eventCount l → test i ≡ eventHas (eventAt l i .code) (eventAt l i .count) code) where
-      below-sofar : (n : ℕ) → n ≤ eventCount l → anyBelow test n ≡ sofar n
+    module _ (test : ℕ → Bool) (t : (i : ℕ) → i < eventTotal l → test i ≡ eventHas (eventEntry l i .code) (eventEntry l i .count) code) where
+      below-sofar : (n : ℕ) → n ≤ eventTotal l → anyBelow test n ≡ sofar n
       unfolding anyBelow sofar run
       below-sofar zero h = refl
       below-sofar (suc n) h =
-          let k : n < eventCount l = omega arith in
+          let k : n < eventTotal l = omega arith in
           ap₂ _||_ (below-sofar n (omega arith)) (t n k) ∙ sym (sofar-more n k) ∙ ap sofar (add-one n)
 
-      below-type : anyBelow test (eventCount l) ≡ any (hasType code) (decode l .productions)
-      below-type = below-sofar (eventCount l) (omega arith) ∙ sofar-all
+      below-type : anyBelow test (eventTotal l) ≡ any (hasType code) (decode l .productions)
+      below-type = below-sofar (eventTotal l) (omega arith) ∙ sofar-all
 
-    pub code-type : 5 < code → anyBelow (hasCode l code) (eventCount l) ≡ any (hasType code) (decode l .productions)
+    pub code-type : 5 < code → anyBelow (hasCode l code) (eventTotal l) ≡ any (hasType code) (decode l .productions)
     unfolding hasCode
     code-type h = below-type (hasCode l code) (λ i k. at i (f .entry i k))
       where
-        at : (i : ℕ) → EntryFacts l i → hasCode l code i ≡ eventHas (eventAt l i .code) (eventAt l i .count) code
-        at i e = rw (e .codeWord) (plain (eventAt l i .code) (eventAt l i .count) h (e .codeLow) (e .counted))
+        at : (i : ℕ) → EntryFacts l i → hasCode l code i ≡ eventHas (eventEntry l i .code) (eventEntry l i .count) code
+        at i e = rw (e .codeWord) (plain (eventEntry l i .code) (eventEntry l i .count) h (e .codeLow) (e .counted))
 
-    pub either-type : anyBelow (hasEither l code (otherCode code)) (eventCount l) ≡ any (hasType code) (decode l .productions)
+    pub either-type : anyBelow (hasEither l code (otherCode code)) (eventTotal l) ≡ any (hasType code) (decode l .productions)
     unfolding hasEither
     either-type = below-type (hasEither l code (otherCode code)) (λ i k. at i (f .entry i k))
       where
-        at : (i : ℕ) → EntryFacts l i → hasEither l code (otherCode code) i ≡ eventHas (eventAt l i .code) (eventAt l i .count) code
-        at i e = rw (e .codeWord, e .countWord) (either (eventAt l i .code) (eventAt l i .count) (e .countLow))
+        at : (i : ℕ) → EntryFacts l i → hasEither l code (otherCode code) i ≡ eventHas (eventEntry l i .code) (eventEntry l i .count) code
+        at i e = rw (e .codeWord, e .countWord) (either (eventEntry l i .code) (eventEntry l i .count) (e .countLow))

@@ -1,4 +1,4 @@
--- A quick test of the events of a table. One that begins a production along which a stretch reads as a prefix passes it
+-- A quick test of the events of a table. One that mayBegin a production along which a stretch reads as a prefix passes it
 -- (proofs/FilterLaws), so a production whose first event does not pass need not be walked.
 use Prim.Native.Nat.{ℕ, _+_, _/_, _≤_, _<_}
 use mathlib.Core.Path.{_≡_}
@@ -29,7 +29,7 @@ soughtOf map x =
     }
 
 -- the codes are the same but for the last bit, as those of a press and its release are, 2 and 3 or 4 and 5: a counted release
--- begins with a press
+-- mayBegin with a press
 unfoldable pub codeSeems : ℕ → Sought → Bool
 codeSeems own s = eqb (own / 2) (s .code / 2)
 
@@ -46,8 +46,8 @@ unfoldable pub suits : List ℕ → ℕ → Sought → Bool
 suits l i s = eqb (bitAnd (s .state) (wordAt l (setsAt + i))) (wordAt l (setsAt + i))
 
 -- it may begin a production for a stretch of one event
-unfoldable pub begins : List ℕ → Sought → ℕ → Bool
-begins l one i = seems l i one && suits l i one
+unfoldable pub mayBegin : List ℕ → Sought → ℕ → Bool
+mayBegin l one i = seems l i one && suits l i one
 
 -- or for a longer one, whose second event meets the same event, if that is counted, or else the next
 unfoldable pub pairs : List ℕ → (one two : Sought) → ℕ → Bool
@@ -58,5 +58,5 @@ unfoldable pub codeBegins : List ℕ → Sought → ℕ → Bool
 codeBegins l one i = codeSeems (wordAt l (codesAt + i)) one
 
 -- of the first n events those that pass a test stand from `low` on and before `high`
-abbrev pub Within : (ℕ → Bool) → (n low high : ℕ) → Type 0
-Within f n low high = (i : ℕ) → i < n → f i ≡ true → (low ≤ i) × (i < high)
+abbrev pub PassersWithin : (ℕ → Bool) → (n low high : ℕ) → Type 0
+PassersWithin f n low high = (i : ℕ) → i < n → f i ≡ true → (low ≤ i) × (i < high)

@@ -15,11 +15,11 @@ use Rattle.tables.specs.Reading.{decode}
 use Rattle.tables.specs.Whole.{whole}
 use Rattle.matcher.specs.declared.state.State.{State}
 use Rattle.matcher.specs.declared.Answer.{Answer}
-use Rattle.matcher.specs.State.{keptOf, stateOf, wholeState}
+use Rattle.matcher.specs.State.{keptOf, stateKeeping, wholeState}
 
 -- the answer with the state that stands for what is kept
-unfoldable pub answerOf : Step → Answer
-answerOf s = record { matched = s .answer; state = stateOf (s .next) }
+unfoldable pub stepAnswer : Step → Answer
+stepAnswer s = record { matched = s .answer; state = stateKeeping (s .next) }
 
 -- "A refused matcher call keeps the state and selects none."
 abbrev pub refusedWith : ℕ → State → Answer
@@ -39,7 +39,7 @@ matchNumber table map limit s c =
 unfoldable pub callAnswer : (table map : List ℕ) → (limit : ℕ) → State → MatchCall → Answer
 callAnswer table map limit s c =
     cond (eqb (matchNumber table map limit s c) 0)
-    (answerOf (stepped (decode table) map limit (keptOf s) c))
+    (stepAnswer (stepped (decode table) map limit (keptOf s) c))
     (refusedWith (matchNumber table map limit s c) s)
 
 abbrev pub matchAnswer : (table map : List ℕ) → (limit : ℕ) → State → (bytes : List ℕ) → (order : ℕ) → Answer

@@ -47,17 +47,17 @@ unfoldable pub slotsOf : List ℕ → List Event
 slotsOf l = run (eventIn l) 0 slots
 
 -- the bytes with an event stored in slot i
-unfoldable pub putEvent : List ℕ → ℕ → Event → List ℕ
-putEvent l i x = sets l (8 * i) (eventBytes x)
+unfoldable pub putSlot : List ℕ → ℕ → Event → List ℕ
+putSlot l i x = sets l (8 * i) (eventBytes x)
 
 -- the bytes of events, one after the other
-unfoldable pub bytesOf : List Event → List ℕ
-bytesOf [] = []
-bytesOf (x ∷ xs) = eventBytes x ++ bytesOf xs
+unfoldable pub eventsBytes : List Event → List ℕ
+eventsBytes [] = []
+eventsBytes (x ∷ xs) = eventBytes x ++ eventsBytes xs
 
 -- the bytes with these events in the first slots and zero in the others
 unfoldable pub inSlots : List Event → List ℕ
-inSlots xs = bytesOf xs ++ zeros (slotBytes - 8 * length xs)
+inSlots xs = eventsBytes xs ++ zeros (slotBytes - 8 * length xs)
 
 -- ---- What a state stands for
 
@@ -69,8 +69,8 @@ unfoldable pub stateWith : List Event → ℕ → State
 stateWith xs selected =
     record { kept = length xs; selected = selected; «open» = not (eqb (length xs) 0); events = inSlots xs }
 
-unfoldable pub stateOf : Kept Event → State
-stateOf k = stateWith (k .events) (k .selected)
+unfoldable pub stateKeeping : Kept Event → State
+stateKeeping k = stateWith (k .events) (k .selected)
 
 -- "A fresh state holds no events": all zero
 abbrev pub freshState : State

@@ -1,6 +1,6 @@
 -- How a stretch of events is walked along the elements of a production, and what one pass over the productions finds.
 -- proofs/PassLaws shows that this comes to model's `readsAsPrefix` and `isWholeSequence`.
-use Prim.Native.Nat.{ℕ, suc, _+_, _-_, _*_, _≤_, _<_}
+use Prim.Native.Nat.{ℕ, suc, _+_, _*_, _≤_, _<_}
 use mathlib.Core.Path.{_≡_}
 use mathlib.Core.Bool.{Bool, true, false, cond, not, _&&_, _||_}
 use mathlib.Core.List.{List, [], _∷_}
@@ -19,7 +19,7 @@ use Rattle.counts.specs.Elements.{elementCount, elementCode, isTimed}
 use Rattle.keyboard.specs.Pairs.{pairAsked}
 use Rattle.tables.specs.Layout.{flagsAt, lowsAt, highsAt}
 use Rattle.words.specs.Runs.{run}
-use Rattle.tables.specs.Reading.{productionCount, eventCount, eventsFrom, eventAt}
+use Rattle.tables.specs.Reading.{productionTotal, eventTotal, firstEvent, eventEntry}
 use Rattle.tables.specs.Whole.{whole}
 use Rattle.records.specs.Ranges.{EventRanges}
 use Rattle.matcher.specs.declared.walk.Followed.{Followed}
@@ -70,11 +70,11 @@ followed map limit xs p = walked map limit none none (sequence p) xs
 
 -- how many elements event i has
 unfoldable pub sizeIn : List ℕ → ℕ → ℕ
-sizeIn l i = elementCount (eventAt l i .code) (eventAt l i .count)
+sizeIn l i = elementCount (eventEntry l i .code) (eventEntry l i .count)
 
 -- what the walk may rely on: a whole table, a keyboard map of the right length, and events as they are read, in the slots
 -- that these bytes are
-pub record Ready (l map bytes : List ℕ) (to : ℕ) : Type 0 where
+pub record WalkReady (l map bytes : List ℕ) (to : ℕ) : Type 0 where
   pub isWhole : whole l ≡ true
   pub mapped : length map ≡ 496
   pub long : length bytes ≡ 200
@@ -104,13 +104,13 @@ passedIn t map limit (x ∷ xs) = passed t map limit (x ∷ xs)
 
 -- no production that begins with an event before `low`, or from `high` on, has the stretch as a prefix
 pub record Outside (l map : List ℕ) (xs : List Event) (low high : ℕ) : Type 0 where
-  pub before : (limit first n : ℕ) → 1 ≤ n → first + n ≤ eventCount l → first < low
-      → walked map limit none none (expanded (run (eventAt l) first n)) xs ≡ Followed.No
-  pub after : (limit first n : ℕ) → 1 ≤ n → first + n ≤ eventCount l → high ≤ first
-      → walked map limit none none (expanded (run (eventAt l) first n)) xs ≡ Followed.No
+  pub before : (limit first n : ℕ) → 1 ≤ n → first + n ≤ eventTotal l → first < low
+      → walked map limit none none (expanded (run (eventEntry l) first n)) xs ≡ Followed.No
+  pub after : (limit first n : ℕ) → 1 ≤ n → first + n ≤ eventTotal l → high ≤ first
+      → walked map limit none none (expanded (run (eventEntry l) first n)) xs ≡ Followed.No
 
 -- production p has its events from `at` on, and those before it begin before `low`
 pub record Skipped (l : List ℕ) (low at p : ℕ) : Type 0 where
-  pub most : p ≤ productionCount l
-  pub place : at ≡ eventsFrom l p
-  pub over : (q : ℕ) → q < p → eventsFrom l q < low
+  pub most : p ≤ productionTotal l
+  pub place : at ≡ firstEvent l p
+  pub over : (q : ℕ) → q < p → firstEvent l q < low

@@ -5,9 +5,10 @@ ghost use Prim.Native.Nat.{_+_, _-_, _≤_, _<_};
 ghost use lib.ListN.{length};
 ghost use Rattle.records.specs.Ranges.{EventRanges};
 ghost use Rattle.keyboard.specs.Maps.{mapNumbers};
-ghost use Rattle.tables.specs.Reading.{eventCount};
+ghost use Rattle.tables.specs.Reading.{eventTotal};
 ghost use Rattle.tables.specs.Whole.{whole};
-ghost use Rattle.matcher.specs.Filter.{other, soughtOf, codeSeems, detailSeems, seems, suits, begins, pairs, codeBegins, Within};
+ghost use Rattle.matcher.specs.Filter.{other, soughtOf, codeSeems, detailSeems, seems, suits, mayBegin, pairs, codeBegins, PassersWithin};
+ghost use Rattle.tables.specs.Layout.{tableLength};
 use crate::reader;
 use model::events::Event;
 use tables::places;
@@ -52,7 +53,7 @@ pub fn sought_of(map: &[u8], x: Event) -> Sought
 }
 
 // Whether the codes are the same but for the last bit, as those of a press and its release are: 2 and 3 of keys, 4 and 5 of
-// buttons. A counted release begins with a press. Other codes that pass are told apart by the walk.
+// buttons. A counted release mayBegin with a press. Other codes that pass are told apart by the walk.
 fn code_seems(own: u16, s: Sought) -> bool
     ensures { λ r. ⌜ r ≡ codeSeems own s ⌝ }
 {
@@ -71,7 +72,7 @@ fn detail_seems(low: u16, s: Sought) -> bool
 
 // Whether event i of a table may be met first by what is sought.
 fn seems(table: &[u8], i: usize, s: Sought) -> bool
-    requires { ⌜ (5904 ≤ length (now table)) × (i ≤ 256) ⌝ }
+    requires { ⌜ (tableLength ≤ length (now table)) × (i ≤ 256) ⌝ }
     ensures { λ r. ⌜ r ≡ seems (now (table .entry)) i s ⌝ }
 {
     let own = words::word_at(table, places::CODES + i);
@@ -81,7 +82,7 @@ fn seems(table: &[u8], i: usize, s: Sought) -> bool
 
 // The same, by the code alone where that is another: one event at a time this is faster.
 pub fn seems_one(table: &[u8], i: usize, s: Sought) -> bool
-    requires { ⌜ (5904 ≤ length (now table)) × (i ≤ 256) ⌝ }
+    requires { ⌜ (tableLength ≤ length (now table)) × (i ≤ 256) ⌝ }
     ensures { λ r. ⌜ r ≡ seems (now (table .entry)) i s ⌝ }
 {
     let own = words::word_at(table, places::CODES + i);
@@ -94,7 +95,7 @@ pub fn seems_one(table: &[u8], i: usize, s: Sought) -> bool
 
 // Whether the state has the bits that event i asks set. Those that it asks clear are left to the walk.
 fn suits(table: &[u8], i: usize, s: Sought) -> bool
-    requires { ⌜ (5904 ≤ length (now table)) × (i < 256) ⌝ }
+    requires { ⌜ (tableLength ≤ length (now table)) × (i < 256) ⌝ }
     ensures { λ r. ⌜ r ≡ suits (now (table .entry)) i s ⌝ }
 {
     let set = reader::set_at(table, i);
@@ -102,17 +103,17 @@ fn suits(table: &[u8], i: usize, s: Sought) -> bool
 }
 
 // Whether event i may begin a production for a stretch of one event.
-fn begins(table: &[u8], one: Sought, i: usize) -> bool
-    requires { ⌜ (5904 ≤ length (now table)) × (i < 256) ⌝ }
-    ensures { λ r. ⌜ r ≡ begins (now (table .entry)) one i ⌝ }
+fn mayBegin(table: &[u8], one: Sought, i: usize) -> bool
+    requires { ⌜ (tableLength ≤ length (now table)) × (i < 256) ⌝ }
+    ensures { λ r. ⌜ r ≡ mayBegin (now (table .entry)) one i ⌝ }
 {
     seems(table, i, one) & suits(table, i, one)
 }
 
-// Whether event i may begin a production for a stretch that begins with `one` and goes on with `two`. In a whole table every
+// Whether event i may begin a production for a stretch that mayBegin with `one` and goes on with `two`. In a whole table every
 // count is at least 1.
 fn pairs(table: &[u8], one: Sought, two: Sought, i: usize) -> bool
-    requires { ⌜ (5904 ≤ length (now table)) × (i < 256) ⌝ }
+    requires { ⌜ (tableLength ≤ length (now table)) × (i < 256) ⌝ }
     ensures { λ r. ⌜ r ≡ pairs (now (table .entry)) one two i ⌝ }
 {
     let counted = words::word_at(table, places::COUNTS + i) != 1;
@@ -167,14 +168,14 @@ fn low_of(turned: u16) -> u16
 // so that the loop is compiled to vector instructions.
 pub fn reach_alone(table: &[u8], one: Sought) -> Reach
     requires { ⌜ whole (now table) ≡ true ⌝ }
-    ensures { λ r. ⌜ Within (begins (now (table .entry)) one) (eventCount (now (table .entry))) (r .low) (r .high) ⌝ }
+    ensures { λ r. ⌜ PassersWithin (mayBegin (now (table .entry)) one) (eventTotal (now (table .entry))) (r .low) (r .high) ⌝ }
 {
     let n = tables::read::event_count(table);
     let mut high: u16 = 0;
     let mut turned: u16 = 0;
     let mut i: usize = 0;
     while i < n {
-        let holds = begins(table, one, i);
+        let holds = mayBegin(table, one, i);
         high = high | end_at(i, holds);
         turned = turned | turned_at(i, holds);
         i += 1;
@@ -188,7 +189,7 @@ pub fn reach_alone(table: &[u8], one: Sought) -> Reach
 // The same for a longer stretch, without the lower bound: mostly there is no such event.
 pub fn reach_paired(table: &[u8], one: Sought, two: Sought) -> Reach
     requires { ⌜ whole (now table) ≡ true ⌝ }
-    ensures { λ r. ⌜ Within (pairs (now (table .entry)) one two) (eventCount (now (table .entry))) (r .low) (r .high) ⌝ }
+    ensures { λ r. ⌜ PassersWithin (pairs (now (table .entry)) one two) (eventTotal (now (table .entry))) (r .low) (r .high) ⌝ }
 {
     let n = tables::read::event_count(table);
     let mut high: u16 = 0;
@@ -204,7 +205,7 @@ pub fn reach_paired(table: &[u8], one: Sought, two: Sought) -> Reach
 // The same by the code alone: of events other than keys few stand in a table, and one word of each is read.
 pub fn reach_of_code(table: &[u8], one: Sought) -> Reach
     requires { ⌜ whole (now table) ≡ true ⌝ }
-    ensures { λ r. ⌜ Within (codeBegins (now (table .entry)) one) (eventCount (now (table .entry))) (r .low) (r .high) ⌝ }
+    ensures { λ r. ⌜ PassersWithin (codeBegins (now (table .entry)) one) (eventTotal (now (table .entry))) (r .low) (r .high) ⌝ }
 {
     let n = tables::read::event_count(table);
     let mut high: u16 = 0;

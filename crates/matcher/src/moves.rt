@@ -9,9 +9,9 @@ ghost use Rattle.tables.specs.Reading.{decode};
 ghost use Rattle.tables.specs.Whole.{whole};
 ghost use Rattle.matcher.specs.State.{slotsOf, inSlots, wholeState, keptOf};
 ghost use Rattle.keyboard.specs.Maps.{mapNumbers};
-ghost use Rattle.matcher.specs.Walk.{Ready};
+ghost use Rattle.matcher.specs.Walk.{WalkReady};
 ghost use Rattle.matcher.specs.Moves.{answerWith, restarted};
-ghost use Rattle.matcher.specs.Match.{answerOf};
+ghost use Rattle.matcher.specs.Match.{stepAnswer};
 use crate::Answer;
 use crate::slots;
 use crate::state::State;
@@ -86,7 +86,7 @@ fn restart(
     selected: usize,
     to: usize,
 ) -> Answer
-    requires { ⌜ Ready (now table) (mapNumbers (now map)) (now events) to × ((1 ≤ to) × (selected ≤ to)) ⌝ }
+    requires { ⌜ WalkReady (now table) (mapNumbers (now map)) (now events) to × ((1 ≤ to) × (selected ≤ to)) ⌝ }
     ensures { λ r. ⌜ r ≡ restarted (decode (now (table .entry))) (mapNumbers (now (map .entry))) limit (take to (slotsOf (now (events .entry)))) selected ⌝ }
 {
     let start = walk::first_start(table, map, limit, events, used_up(selected), to);
@@ -99,7 +99,7 @@ fn restart(
 // An event that is heard.
 pub fn heard(table: &[u8], map: &[u8], limit: u32, state: State, x: Event) -> Answer
     requires { ⌜ ((whole (now table) ≡ true) × (length (mapNumbers (now map)) ≡ 496)) × ((wholeState state ≡ true) × EventRanges x) ⌝ }
-    ensures { λ r. ⌜ r ≡ answerOf (hear (decode (now (table .entry))) (mapNumbers (now (map .entry))) limit (keptOf state) x) ⌝ }
+    ensures { λ r. ⌜ r ≡ stepAnswer (hear (decode (now (table .entry))) (mapNumbers (now (map .entry))) limit (keptOf state) x) ⌝ }
 {
     let kept = state.kept;
     let selected = state.selected;

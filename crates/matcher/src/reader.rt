@@ -3,39 +3,40 @@ use tables::places;
 ghost use mathlib.Core.Path.{_≡_};
 ghost use Prim.Native.Nat.{_≤_, _<_};
 ghost use lib.ListN.{length};
-ghost use Rattle.tables.specs.Reading.{eventAt, isFlag};
+ghost use Rattle.tables.specs.Reading.{eventEntry, isFlag};
 ghost use Rattle.matcher.specs.Walk.{flagsIn, valueIn};
+ghost use Rattle.tables.specs.Layout.{tableLength};
 
 pub fn code_at(table: &[u8], i: usize) -> u8
-    requires { ⌜ (5904 ≤ length (now table)) × (i < 256) ⌝ }
-    ensures { λ r. ⌜ r ≡ eventAt (now (table .entry)) i .code ⌝ }
+    requires { ⌜ (tableLength ≤ length (now table)) × (i < 256) ⌝ }
+    ensures { λ r. ⌜ r ≡ eventEntry (now (table .entry)) i .code ⌝ }
 {
     (words::word_at(table, places::CODES + i) % 256) as u8
 }
 
 pub fn count_at(table: &[u8], i: usize) -> u8
-    requires { ⌜ (5904 ≤ length (now table)) × (i < 256) ⌝ }
-    ensures { λ r. ⌜ r ≡ eventAt (now (table .entry)) i .count ⌝ }
+    requires { ⌜ (tableLength ≤ length (now table)) × (i < 256) ⌝ }
+    ensures { λ r. ⌜ r ≡ eventEntry (now (table .entry)) i .count ⌝ }
 {
     (words::word_at(table, places::COUNTS + i) % 256) as u8
 }
 
 pub fn set_at(table: &[u8], i: usize) -> u16
-    requires { ⌜ (5904 ≤ length (now table)) × (i < 256) ⌝ }
-    ensures { λ r. ⌜ r ≡ eventAt (now (table .entry)) i .set ⌝ }
+    requires { ⌜ (tableLength ≤ length (now table)) × (i < 256) ⌝ }
+    ensures { λ r. ⌜ r ≡ eventEntry (now (table .entry)) i .set ⌝ }
 {
     words::word_at(table, places::SETS + i)
 }
 
 pub fn clear_at(table: &[u8], i: usize) -> u16
-    requires { ⌜ (5904 ≤ length (now table)) × (i < 256) ⌝ }
-    ensures { λ r. ⌜ r ≡ eventAt (now (table .entry)) i .clear ⌝ }
+    requires { ⌜ (tableLength ≤ length (now table)) × (i < 256) ⌝ }
+    ensures { λ r. ⌜ r ≡ eventEntry (now (table .entry)) i .clear ⌝ }
 {
     words::word_at(table, places::CLEARS + i)
 }
 
 pub fn flags_at(table: &[u8], i: usize) -> u16
-    requires { ⌜ (5904 ≤ length (now table)) × (i < 256) ⌝ }
+    requires { ⌜ (tableLength ≤ length (now table)) × (i < 256) ⌝ }
     ensures { λ r. ⌜ r ≡ flagsIn (now (table .entry)) i ⌝ }
 {
     words::word_at(table, places::FLAGS + i)
@@ -43,7 +44,7 @@ pub fn flags_at(table: &[u8], i: usize) -> u16
 
 // The detail that is asked for, of two words.
 pub fn value_at(table: &[u8], i: usize) -> u32
-    requires { ⌜ (5904 ≤ length (now table)) × (i < 256) ⌝ }
+    requires { ⌜ (tableLength ≤ length (now table)) × (i < 256) ⌝ }
     ensures { λ r. ⌜ r ≡ valueIn (now (table .entry)) i ⌝ }
 {
     let low = words::word_at(table, places::LOWS + i) as u32;

@@ -2,7 +2,7 @@
 ghost use mathlib.Core.Path.{_≡_};
 ghost use Prim.Native.Nat.{_+_, _*_, _≤_};
 ghost use lib.ListN.{length};
-ghost use Rattle.matcher.specs.State.{eventIn, putEvent};
+ghost use Rattle.matcher.specs.State.{eventIn, putSlot};
 use model::events::Event;
 
 // The event in slot j.
@@ -22,7 +22,7 @@ pub fn event_at(events: &[u8], j: usize) -> Event
 // Stores an event in slot j.
 pub fn put_event(out: &mut [u8], j: usize, x: Event)
     requires { ⌜ 8 * j + 8 ≤ length (now out) ⌝ }
-    ensures { λ r. ⌜ now (out .exit) ≡ putEvent (now (out .entry)) j x ⌝ }
+    ensures { λ r. ⌜ now (out .exit) ≡ putSlot (now (out .entry)) j x ⌝ }
 {
     let at = 8 * j;
     out[at] = x.code;

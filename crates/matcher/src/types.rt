@@ -8,6 +8,7 @@ ghost use Rattle.tables.specs.Whole.{whole};
 ghost use Rattle.model.specs.Lists.{any};
 ghost use Rattle.model.specs.Matching.{hasType};
 ghost use Rattle.matcher.specs.Types.{anyBelow, otherCode, hasCode, hasEither};
+ghost use Rattle.tables.specs.Layout.{tableLength};
 use tables::places;
 
 // The press of a release, and the release of a press.
@@ -21,7 +22,7 @@ fn other_code(code: u8) -> u8
 // Whether one of the first n events has this code. No early exit, and whole words, so that the loop is compiled to vector
 // instructions.
 fn has_code(table: &[u8], n: usize, code: u16) -> bool
-    requires { ⌜ (5904 ≤ length (now table)) × (n ≤ 256) ⌝ }
+    requires { ⌜ (tableLength ≤ length (now table)) × (n ≤ 256) ⌝ }
     ensures { λ r. ⌜ r ≡ anyBelow (hasCode (now (table .entry)) code) n ⌝ }
 {
     let mut hit = false;
@@ -36,7 +37,7 @@ fn has_code(table: &[u8], n: usize, code: u16) -> bool
 // Whether one of them has this code, or has the other one and is counted: such an event stands for presses and releases. In
 // a whole table every count is at least 1.
 fn has_either(table: &[u8], n: usize, code: u16, other: u16) -> bool
-    requires { ⌜ (5904 ≤ length (now table)) × (n ≤ 256) ⌝ }
+    requires { ⌜ (tableLength ≤ length (now table)) × (n ≤ 256) ⌝ }
     ensures { λ r. ⌜ r ≡ anyBelow (hasEither (now (table .entry)) code other) n ⌝ }
 {
     let mut hit = false;

@@ -5,7 +5,7 @@ ghost use mathlib.Core.Option.{none};
 ghost use Prim.Native.Nat.{_+_, _-_, _≤_, _<_};
 ghost use lib.ListN.{length, getD, take, drop};
 ghost use Rattle.records.specs.Ranges.{EventRanges};
-ghost use Rattle.tables.specs.Reading.{productionCount, productionEvents, eventCount, eventAt, decode};
+ghost use Rattle.tables.specs.Reading.{productionTotal, productionEvents, eventTotal, eventEntry, decode};
 ghost use Rattle.tables.specs.Whole.{whole};
 ghost use Rattle.words.specs.Runs.{run, total};
 ghost use Rattle.model.specs.Counts.{expanded};
@@ -14,7 +14,7 @@ ghost use Rattle.machine.specs.Kept.{longestEnd};
 ghost use Rattle.keyboard.specs.Maps.{mapNumbers};
 ghost use Rattle.matcher.specs.State.{zeroEvent, slotsOf};
 ghost use Rattle.matcher.specs.Filter.{soughtOf};
-ghost use Rattle.matcher.specs.Walk.{eventMeets, detailAsked, elementOf, fitsAfter, walked, sizeIn, Ready, Outside, Skipped, passed, passedIn};
+ghost use Rattle.matcher.specs.Walk.{eventMeets, detailAsked, elementOf, fitsAfter, walked, sizeIn, WalkReady, Outside, Skipped, passed, passedIn};
 use crate::filter;
 use crate::filter::Reach;
 use crate::filter::Sought;
@@ -68,8 +68,8 @@ fn detail_met(map: &[u8], set: u16, clear: u16, colon: bool, value: u32, x: Even
 
 // Whether an event meets the test and the detail of event i of a table.
 fn event_meets(table: &[u8], map: &[u8], i: usize, x: Event) -> bool
-    requires { ⌜ ((whole (now table) ≡ true) × (i < eventCount (now table))) × ((length (mapNumbers (now map)) ≡ 496) × EventRanges x) ⌝ }
-    ensures { λ r. ⌜ r ≡ eventMeets (mapNumbers (now (map .entry))) (eventAt (now (table .entry)) i) x ⌝ }
+    requires { ⌜ ((whole (now table) ≡ true) × (i < eventTotal (now table))) × ((length (mapNumbers (now map)) ≡ 496) × EventRanges x) ⌝ }
+    ensures { λ r. ⌜ r ≡ eventMeets (mapNumbers (now (map .entry))) (eventEntry (now (table .entry)) i) x ⌝ }
 {
     let set = reader::set_at(table, i);
     let clear = reader::clear_at(table, i);
@@ -100,8 +100,8 @@ fn element_fits(
     before: u32,
     x: Event,
 ) -> bool
-    requires { ⌜ ((whole (now table) ≡ true) × (i < eventCount (now table))) × ((length (mapNumbers (now map)) ≡ 496) × EventRanges x) ⌝ }
-    ensures { λ r. ⌜ r ≡ fitsAfter (mapNumbers (now (map .entry))) limit before (elementOf (eventAt (now (table .entry)) i) k) x ⌝ }
+    requires { ⌜ ((whole (now table) ≡ true) × (i < eventTotal (now table))) × ((length (mapNumbers (now map)) ≡ 496) × EventRanges x) ⌝ }
+    ensures { λ r. ⌜ r ≡ fitsAfter (mapNumbers (now (map .entry))) limit before (elementOf (eventEntry (now (table .entry)) i) k) x ⌝ }
 {
     let code = reader::code_at(table, i);
     let count = reader::count_at(table, i);
@@ -119,7 +119,7 @@ fn element_fits(
 
 // How many elements event i of a table has.
 fn size_at(table: &[u8], i: usize) -> usize
-    requires { ⌜ (whole (now table) ≡ true) × (i < eventCount (now table)) ⌝ }
+    requires { ⌜ (whole (now table) ≡ true) × (i < eventTotal (now table)) ⌝ }
     ensures { λ r. ⌜ r ≡ sizeIn (now (table .entry)) i ⌝ }
 {
     let code = reader::code_at(table, i);
@@ -149,8 +149,8 @@ fn follow(
     from: usize,
     to: usize,
 ) -> Followed
-    requires { ⌜ Ready (now table) (mapNumbers (now map)) (now events) to × (from ≤ to) × (first + n ≤ eventCount (now table)) ⌝ }
-    ensures { λ r. ⌜ r ≡ walked (mapNumbers (now (map .entry))) limit none none (expanded (run (eventAt (now (table .entry))) first n)) (drop from (take to (slotsOf (now (events .entry))))) ⌝ }
+    requires { ⌜ WalkReady (now table) (mapNumbers (now map)) (now events) to × (from ≤ to) × (first + n ≤ eventTotal (now table)) ⌝ }
+    ensures { λ r. ⌜ r ≡ walked (mapNumbers (now (map .entry))) limit none none (expanded (run (eventEntry (now (table .entry))) first n)) (drop from (take to (slotsOf (now (events .entry))))) ⌝ }
 {
     let last = first + n;
     let mut i = first;
@@ -183,7 +183,7 @@ fn follow(
 // How many events sixteen productions have, from production p on. They are so few that 16 bits hold the sum, and it is
 // compiled to vector instructions.
 fn sixteen(table: &[u8], p: usize) -> usize
-    requires { ⌜ (whole (now table) ≡ true) × (p + 16 ≤ productionCount (now table)) ⌝ }
+    requires { ⌜ (whole (now table) ≡ true) × (p + 16 ≤ productionTotal (now table)) ⌝ }
     ensures { λ r. ⌜ r ≡ total (productionEvents (now (table .entry))) p 16 ⌝ }
 {
     let mut sum: u16 = 0;
@@ -197,7 +197,7 @@ fn sixteen(table: &[u8], p: usize) -> usize
 
 // A production not far before the first whose events do not begin before `low`: sixteen are stepped over at a time.
 fn leap(table: &[u8], n: usize, low: usize) -> Spot
-    requires { ⌜ (whole (now table) ≡ true) × (n ≡ productionCount (now table)) ⌝ }
+    requires { ⌜ (whole (now table) ≡ true) × (n ≡ productionTotal (now table)) ⌝ }
     ensures { λ r. ⌜ Skipped (now (table .entry)) low (r .at) (r .p) ⌝ }
 {
     let mut at: usize = 0;
@@ -251,7 +251,7 @@ fn scan(
     one: Sought,
     reach: Reach,
 ) -> Passed
-    requires { ⌜ Ready (now table) (mapNumbers (now map)) (now events) to × (from < to) × (one ≡ soughtOf (mapNumbers (now map)) (getD (slotsOf (now events)) from zeroEvent)) × Outside (now table) (mapNumbers (now map)) (drop from (take to (slotsOf (now events)))) (reach .low) (reach .high) ⌝ }
+    requires { ⌜ WalkReady (now table) (mapNumbers (now map)) (now events) to × (from < to) × (one ≡ soughtOf (mapNumbers (now map)) (getD (slotsOf (now events)) from zeroEvent)) × Outside (now table) (mapNumbers (now map)) (drop from (take to (slotsOf (now events)))) (reach .low) (reach .high) ⌝ }
     ensures { λ r. ⌜ r ≡ passed (decode (now (table .entry))) (mapNumbers (now (map .entry))) limit (drop from (take to (slotsOf (now (events .entry))))) ⌝ }
 {
     let n = tables::read::production_count(table);
@@ -292,7 +292,7 @@ fn scan(
 // a key event every event of the table is tried at once, by its code, its detail and the modifiers that it asks set or, where
 // the stretch goes on, by the codes and details of two events.
 fn reach_of(table: &[u8], map: &[u8], events: &[u8], from: usize, to: usize, one: Sought) -> Reach
-    requires { ⌜ Ready (now table) (mapNumbers (now map)) (now events) to × (from < to) × (one ≡ soughtOf (mapNumbers (now map)) (getD (slotsOf (now events)) from zeroEvent)) ⌝ }
+    requires { ⌜ WalkReady (now table) (mapNumbers (now map)) (now events) to × (from < to) × (one ≡ soughtOf (mapNumbers (now map)) (getD (slotsOf (now events)) from zeroEvent)) ⌝ }
     ensures { λ r. ⌜ Outside (now (table .entry)) (mapNumbers (now (map .entry))) (drop from (take to (slotsOf (now (events .entry))))) (r .low) (r .high) ⌝ }
 {
     if 3 < one.code {
@@ -307,7 +307,7 @@ fn reach_of(table: &[u8], map: &[u8], events: &[u8], from: usize, to: usize, one
 
 // Events from..to against every production, in order.
 pub fn pass(table: &[u8], map: &[u8], limit: u32, events: &[u8], from: usize, to: usize) -> Passed
-    requires { ⌜ Ready (now table) (mapNumbers (now map)) (now events) to × (from < to) ⌝ }
+    requires { ⌜ WalkReady (now table) (mapNumbers (now map)) (now events) to × (from < to) ⌝ }
     ensures { λ r. ⌜ r ≡ passed (decode (now (table .entry))) (mapNumbers (now (map .entry))) limit (drop from (take to (slotsOf (now (events .entry))))) ⌝ }
 {
     let one = filter::sought_of(map, slots::event_at(events, from));
@@ -324,7 +324,7 @@ pub fn first_start(
     from: usize,
     to: usize,
 ) -> Start
-    requires { ⌜ Ready (now table) (mapNumbers (now map)) (now events) to × (from ≤ to) ⌝ }
+    requires { ⌜ WalkReady (now table) (mapNumbers (now map)) (now events) to × (from ≤ to) ⌝ }
     ensures { λ r. ⌜ (r .at ≤ to) × (drop (r .at) (take to (slotsOf (now (events .entry)))) ≡ longestEnd (readingOf (decode (now (table .entry))) (mapNumbers (now (map .entry))) limit) (drop from (take to (slotsOf (now (events .entry)))))) × (r .found ≡ passedIn (decode (now (table .entry))) (mapNumbers (now (map .entry))) limit (drop (r .at) (take to (slotsOf (now (events .entry)))))) ⌝ }
 {
     let mut at = from;

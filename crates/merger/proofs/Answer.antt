@@ -14,7 +14,7 @@ use Rattle.model.specs.declared.answers.Merged.{Merged}
 use Rattle.tables.specs.Layout.{encode, tableLength}
 use Rattle.tables.specs.Reading.{mergedIn, decode}
 use Rattle.tables.specs.Whole.{whole}
-use Rattle.merger.specs.Merge.{mergeNumber, answerOf, mergeAnswer, mergedBytes}
+use Rattle.merger.specs.Merge.{mergeNumber, numberAnswer, mergeAnswer, mergedBytes}
 
 pub merged-there : (l : List ℕ) → decode l .merged ≡ mergedIn l
 unfolding decode
@@ -52,9 +52,9 @@ none-apply false false false false true h = absurd (omega arith)
 none-apply false false false false false h = record { oldNotWhole = refl; newNotWhole = refl; oldMerged = refl; newMerged = refl; past = refl }
 
 module _ (old new out : List ℕ) where
-  by-number : (n : ℕ) → mergeNumber old new out ≡ n → mergeAnswer old new out ≡ answerOf n
+  by-number : (n : ℕ) → mergeNumber old new out ≡ n → mergeAnswer old new out ≡ numberAnswer n
   unfolding mergeAnswer
-  by-number n e = ap answerOf e
+  by-number n e = ap numberAnswer e
 
   -- ---- 1
 
@@ -62,22 +62,22 @@ module _ (old new out : List ℕ) where
   unfolding mergedBytes
   short-refusal e = (sym (by-number 1 e), rw e)
 
-  pub short-old : length old < 5904 → (Merged.Refused 1 ≡ mergeAnswer old new out) × (out ≡ mergedBytes old new out)
+  pub short-old : length old < tableLength → (Merged.Refused 1 ≡ mergeAnswer old new out) × (out ≡ mergedBytes old new out)
   unfolding mergeNumber
   short-old h = short-refusal (rw (lt-ltb (length old) tableLength h))
 
-  pub short-new : 5904 ≤ length old → length new < 5904 → (Merged.Refused 1 ≡ mergeAnswer old new out) × (out ≡ mergedBytes old new out)
+  pub short-new : tableLength ≤ length old → length new < tableLength → (Merged.Refused 1 ≡ mergeAnswer old new out) × (out ≡ mergedBytes old new out)
   unfolding mergeNumber
   short-new g h = short-refusal (rw (le-ltb (length old) tableLength g, lt-ltb (length new) tableLength h))
 
-  pub short-out : 5904 ≤ length old → 5904 ≤ length new → length out < 5904 → (Merged.Refused 1 ≡ mergeAnswer old new out) × (out ≡ mergedBytes old new out)
+  pub short-out : tableLength ≤ length old → tableLength ≤ length new → length out < tableLength → (Merged.Refused 1 ≡ mergeAnswer old new out) × (out ≡ mergedBytes old new out)
   unfolding mergeNumber
   short-out f g h =
       short-refusal (rw (le-ltb (length old) tableLength f, le-ltb (length new) tableLength g, lt-ltb (length out) tableLength h))
 
   -- ---- The checks on the tables
 
-  module _ (lo : 5904 ≤ length old) (ln : 5904 ≤ length new) (lu : 5904 ≤ length out) where
+  module _ (lo : tableLength ≤ length old) (ln : tableLength ≤ length new) (lu : tableLength ≤ length out) where
     number-there : mergeNumber old new out ≡ mergeOrder false false false (not (whole old)) (not (whole new)) (decode old .merged) (decode new .merged) (mergePassesLimit (decode old) (decode new))
     unfolding mergeNumber
     number-there = rw (le-ltb (length old) tableLength lo, le-ltb (length new) tableLength ln, le-ltb (length out) tableLength lu)

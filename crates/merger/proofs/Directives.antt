@@ -5,7 +5,7 @@ use mathlib.Core.Path.{_≡_, subst}
 use mathlib.Core.Bool.{true, false}
 use mathlib.Core.List.{List}
 use Rattle.model.specs.declared.events.Directive.{Directive}
-use Rattle.tables.specs.Reading.{productionCount, directiveIn}
+use Rattle.tables.specs.Reading.{productionTotal, directiveIn}
 use Rattle.tables.specs.Whole.{whole}
 use Rattle.merger.specs.Kept.{keptFrom}
 use Rattle.merger.specs.Counting.{noTally, tallyAll, tallyBy, tallyMerged, TallyBelow, TallyRoom}
@@ -55,39 +55,39 @@ module _ (old new : List ℕ) where
   -- ---- Override
 
   pub override-tally : directiveIn new ≡ Directive.Override
-      → tallyMerged old new ≡ tallyAll (tallyAll noTally (keptFrom new 0 old 0)) (keptFrom old 0 new (productionCount new))
+      → tallyMerged old new ≡ tallyAll (tallyAll noTally (keptFrom new 0 old 0)) (keptFrom old 0 new (productionTotal new))
   unfolding tallyMerged tallyBy
   override-tally e = rw e
 
   pub override-put : (out : List ℕ) → directiveIn new ≡ Directive.Override
       → putBy (directiveIn new) old new out
-      ≡ putAll false (putAll true out noTally (keptFrom new 0 old 0)) (tallyAll noTally (keptFrom new 0 old 0)) (keptFrom old 0 new (productionCount new))
+      ≡ putAll false (putAll true out noTally (keptFrom new 0 old 0)) (tallyAll noTally (keptFrom new 0 old 0)) (keptFrom old 0 new (productionTotal new))
   unfolding putBy
   override-put out e = rw e
 
   pub override-room : directiveIn new ≡ Directive.Override → TallyRoom (tallyMerged old new)
-      → TallyRoom (tallyAll (tallyAll noTally (keptFrom new 0 old 0)) (keptFrom old 0 new (productionCount new)))
+      → TallyRoom (tallyAll (tallyAll noTally (keptFrom new 0 old 0)) (keptFrom old 0 new (productionTotal new)))
   override-room e r = subst (λ (t : Tally). TallyRoom t) (override-tally e) r
 
   pub override-first : directiveIn new ≡ Directive.Override → TallyRoom (tallyMerged old new) → TallyRoom (tallyAll noTally (keptFrom new 0 old 0))
-  override-first e r = all-room (tallyAll noTally (keptFrom new 0 old 0)) (keptFrom old 0 new (productionCount new)) (override-room e r)
+  override-first e r = all-room (tallyAll noTally (keptFrom new 0 old 0)) (keptFrom old 0 new (productionTotal new)) (override-room e r)
 
   -- ---- Augment
 
   pub augment-tally : directiveIn new ≡ Directive.Augment
-      → tallyMerged old new ≡ tallyAll (tallyAll noTally (keptFrom old 0 new 0)) (keptFrom new 0 old (productionCount old))
+      → tallyMerged old new ≡ tallyAll (tallyAll noTally (keptFrom old 0 new 0)) (keptFrom new 0 old (productionTotal old))
   unfolding tallyMerged tallyBy
   augment-tally e = rw e
 
   pub augment-put : (out : List ℕ) → directiveIn new ≡ Directive.Augment
       → putBy (directiveIn new) old new out
-      ≡ putAll true (putAll false out noTally (keptFrom old 0 new 0)) (tallyAll noTally (keptFrom old 0 new 0)) (keptFrom new 0 old (productionCount old))
+      ≡ putAll true (putAll false out noTally (keptFrom old 0 new 0)) (tallyAll noTally (keptFrom old 0 new 0)) (keptFrom new 0 old (productionTotal old))
   unfolding putBy
   augment-put out e = rw e
 
   pub augment-room : directiveIn new ≡ Directive.Augment → TallyRoom (tallyMerged old new)
-      → TallyRoom (tallyAll (tallyAll noTally (keptFrom old 0 new 0)) (keptFrom new 0 old (productionCount old)))
+      → TallyRoom (tallyAll (tallyAll noTally (keptFrom old 0 new 0)) (keptFrom new 0 old (productionTotal old)))
   augment-room e r = subst (λ (t : Tally). TallyRoom t) (augment-tally e) r
 
   pub augment-first : directiveIn new ≡ Directive.Augment → TallyRoom (tallyMerged old new) → TallyRoom (tallyAll noTally (keptFrom old 0 new 0))
-  augment-first e r = all-room (tallyAll noTally (keptFrom old 0 new 0)) (keptFrom new 0 old (productionCount old)) (augment-room e r)
+  augment-first e r = all-room (tallyAll noTally (keptFrom old 0 new 0)) (keptFrom new 0 old (productionTotal old)) (augment-room e r)

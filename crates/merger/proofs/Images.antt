@@ -8,12 +8,12 @@ use lib.ListN.{length, length-append, length-map}
 use Rattle.model.specs.Tables.{Call, Production}
 use Rattle.model.specs.declared.scan.Span.{Span}
 use Rattle.model.specs.declared.events.KeptEvent.{KeptEvent}
-use Rattle.tables.specs.Layout.{Entries, flat, eventsOf, callsOf, parametersOf, image}
+use Rattle.tables.specs.Layout.{Entries, flat, allEvents, allCalls, allParameters, image}
 use Rattle.tables.specs.Writing.{putEvent, putCall, putParameter, noEntries, withEvent, withCall, withParameter}
 use Rattle.tables.proofs.Images.{Room}
 use Rattle.tables.proofs.Lists.{flat-append}
 use Rattle.tables.proofs.Written.{put-event, put-call, put-parameter, put-production}
-use Rattle.merger.specs.Kept.{inText, fromText}
+use Rattle.merger.specs.Kept.{markedCall, fromText}
 use Rattle.merger.specs.Counting.{noTally, tallyOne, tallyAll, TallyRoom}
 use Rattle.merger.specs.Copying.{puts, putCallIn, putOne, putAll}
 use Rattle.merger.specs.declared.count.Tally.{Tally}
@@ -102,14 +102,14 @@ module _ (rest : List ℕ) where
       ∙ rw (append-assoc (x .events) (k ∷ []) ks)
 
   put-calls : (s : Bool) (x : Entries) (n : ℕ) (cs : List Call) → Room x → length (x .calls) ≡ n → n + length cs ≤ 128
-      → puts (putCallIn s) (image x ++ rest) n cs ≡ image (withCalls x (map (inText s) cs)) ++ rest
+      → puts (putCallIn s) (image x ++ rest) n cs ≡ image (withCalls x (map (markedCall s) cs)) ++ rest
   unfolding puts
   put-calls s x n [] r e h = rw (append-nil (x .calls))
   put-calls s x n (k ∷ ks) r e h =
       ap (λ (l : List ℕ). puts (putCallIn s) l (suc n) ks)
-      (ap (λ (m : ℕ). putCall (image x ++ rest) m s (k .name) (length (k .parameters))) (sym e) ∙ put-call x rest r (inText s k) (omega arith))
-      ∙ put-calls s (withCall x (inText s k)) (suc n) ks (room-calls x (inText s k ∷ []) r (omega arith)) (one-more (x .calls) (inText s k) n e) (omega arith)
-      ∙ rw (append-assoc (x .calls) (inText s k ∷ []) (map (inText s) ks))
+      (ap (λ (m : ℕ). putCall (image x ++ rest) m s (k .name) (length (k .parameters))) (sym e) ∙ put-call x rest r (markedCall s k) (omega arith))
+      ∙ put-calls s (withCall x (markedCall s k)) (suc n) ks (room-calls x (markedCall s k ∷ []) r (omega arith)) (one-more (x .calls) (markedCall s k) n e) (omega arith)
+      ∙ rw (append-assoc (x .calls) (markedCall s k ∷ []) (map (markedCall s) ks))
 
   put-parameters : (x : Entries) (n : ℕ) (ss : List Span) → Room x → length (x .parameters) ≡ n → n + length ss ≤ 256
       → puts putParameter (image x ++ rest) n ss ≡ image (withParameters x ss) ++ rest
@@ -130,9 +130,9 @@ bodyOf ps =
       header = [];
       productionEvents = map (λ (p : Production). length (p .events)) ps;
       productionCalls = map (λ (p : Production). length (p .calls)) ps;
-      events = eventsOf ps;
-      calls = callsOf ps;
-      parameters = parametersOf (callsOf ps);
+      events = allEvents ps;
+      calls = allCalls ps;
+      parameters = allParameters (allCalls ps);
     }
 
 pub body-none : bodyOf [] ≡ noEntries
@@ -167,9 +167,9 @@ bodyWith s ps q =
       header = [];
       productionEvents = map (λ (p : Production). length (p .events)) ps ++ (length (q .events) ∷ []);
       productionCalls = map (λ (p : Production). length (p .calls)) ps ++ (length (q .calls) ∷ []);
-      events = eventsOf ps ++ q .events;
-      calls = callsOf ps ++ map (inText s) (q .calls);
-      parameters = parametersOf (callsOf ps) ++ parametersOf (q .calls);
+      events = allEvents ps ++ q .events;
+      calls = allCalls ps ++ map (markedCall s) (q .calls);
+      parameters = allParameters (allCalls ps) ++ allParameters (q .calls);
     }
 
 body-more : (s : Bool) (ps : List Production) (q : Production) → bodyWith s ps q ≡ bodyOf (ps ++ (fromText s q ∷ []))
@@ -179,8 +179,8 @@ body-more s ps q =
     let b = map-one (λ (p : Production). length (p .calls)) ps (fromText s q) in
     let c = flat-one (λ (p : Production). p .events) ps (fromText s q) in
     let d = flat-one (λ (p : Production). p .calls) ps (fromText s q) in
-    let e = flat-append (λ (c : Call). c .parameters) (callsOf ps) (map (inText s) (q .calls)) in
-    sym (rw (a, b, c, d, e, parameters-marked s (q .calls), length-map (q .calls) (inText s)))
+    let e = flat-append (λ (c : Call). c .parameters) (allCalls ps) (map (markedCall s) (q .calls)) in
+    sym (rw (a, b, c, d, e, parameters-marked s (q .calls), length-map (q .calls) (markedCall s)))
 
 module _ (rest : List ℕ) where
   put-one : (s : Bool) (ps : List Production) (q : Production) → TallyRoom (tallyOne (tallyAll noTally ps) q)
@@ -191,18 +191,18 @@ module _ (rest : List ℕ) where
       let k : TallySums noTally ps = tally-sums noTally ps in
       let x0 : Entries = bodyOf ps in
       let x1 : Entries = withEvents x0 (q .events) in
-      let x2 : Entries = withCalls x1 (map (inText s) (q .calls)) in
-      let x3 : Entries = withParameters x2 (parametersOf (q .calls)) in
-      let lm = length-map (q .calls) (inText s) in
+      let x2 : Entries = withCalls x1 (map (markedCall s) (q .calls)) in
+      let x3 : Entries = withParameters x2 (allParameters (q .calls)) in
+      let lm = length-map (q .calls) (markedCall s) in
       let lp = length-map ps (λ (p : Production). length (p .events)) in
       let lc = length-map ps (λ (p : Production). length (p .calls)) in
       let r0 : Room x0 = body-room ps (one-room t q r) in
       let r1 : Room x1 = room-events x0 (q .events) r0 (omega (arith, k .events, r .events)) in
-      let r2 : Room x2 = room-calls x1 (map (inText s) (q .calls)) r1 (omega (arith, k .calls, r .calls)) in
-      let r3 : Room x3 = room-parameters x2 (parametersOf (q .calls)) r2 (omega (arith, k .parameters, r .parameters)) in
+      let r2 : Room x2 = room-calls x1 (map (markedCall s) (q .calls)) r1 (omega (arith, k .calls, r .calls)) in
+      let r3 : Room x3 = room-parameters x2 (allParameters (q .calls)) r2 (omega (arith, k .parameters, r .parameters)) in
       let e1 = put-events rest x0 (t .events) (q .events) r0 (omega (arith, k .events)) (r .events) in
       let e2 = put-calls rest s x1 (t .calls) (q .calls) r1 (omega (arith, k .calls)) (r .calls) in
-      let e3 = put-parameters rest x2 (t .parameters) (parametersOf (q .calls)) r2 (omega (arith, k .parameters)) (r .parameters) in
+      let e3 = put-parameters rest x2 (t .parameters) (allParameters (q .calls)) r2 (omega (arith, k .parameters)) (r .parameters) in
       let n : t .productions ≡ length (x3 .productionEvents) = omega (arith, k .productions) in
       let e4 = put-production x3 rest r3 (length (q .events)) (length (q .calls)) (omega arith) (omega (arith, k .productions, r .productions)) in
       rw (e1, e2, e3, n) (e4 ∙ ap (λ (x : Entries). image x ++ rest) (body-more s ps q))

@@ -5,7 +5,7 @@ use mathlib.Core.Bool.{Bool, true, false, cond, not}
 use mathlib.Core.List.{List, _∷_}
 use Rattle.model.specs.Tables.{Production}
 use Rattle.model.specs.Merging.{isAmong}
-use Rattle.tables.specs.Reading.{productionCount, productionAt}
+use Rattle.tables.specs.Reading.{productionTotal, productionEntry}
 use Rattle.merger.specs.Kept.{firstOf, keptFrom}
 use Rattle.merger.specs.Counting.{tallyOne, tallyAll, TallyRoom}
 use Rattle.merger.specs.Copying.{putOne, putAll}
@@ -27,27 +27,27 @@ cond-put false s out t p ps = refl
 cond-room : (k : Bool) (t : Tally) (p : Production) (ps : List Production) → TallyRoom (tallyAll t (cond k (p ∷ ps) ps)) → k ≡ true → TallyRoom (tallyOne t p)
 cond-room k t p ps r e = first-room t p ps (rw e at r)
 
-module _ (l : List ℕ) (p : ℕ) (other : List ℕ) (n : ℕ) (h : p < productionCount l) where
+module _ (l : List ℕ) (p : ℕ) (other : List ℕ) (n : ℕ) (h : p < productionTotal l) where
   abbrev keep : Bool
-  keep = not (isAmong (firstOf other n) (productionAt l p))
+  keep = not (isAmong (firstOf other n) (productionEntry l p))
 
   pub tally-next : (t : Tally)
       → tallyAll t (keptFrom l p other n)
-      ≡ tallyAll (cond (not (isAmong (firstOf other n) (productionAt l p))) (tallyOne t (productionAt l p)) t) (keptFrom l (p + 1) other n)
-  tally-next t = ap (tallyAll t) (kept-next l p other n h) ∙ cond-tally keep t (productionAt l p) (keptFrom l (p + 1) other n)
+      ≡ tallyAll (cond (not (isAmong (firstOf other n) (productionEntry l p))) (tallyOne t (productionEntry l p)) t) (keptFrom l (p + 1) other n)
+  tally-next t = ap (tallyAll t) (kept-next l p other n h) ∙ cond-tally keep t (productionEntry l p) (keptFrom l (p + 1) other n)
 
   pub put-next : (s : Bool) (out : List ℕ) (t : Tally)
       → putAll s out t (keptFrom l p other n)
-      ≡ putAll s (cond (not (isAmong (firstOf other n) (productionAt l p))) (putOne s out t (productionAt l p)) out)
-      (cond (not (isAmong (firstOf other n) (productionAt l p))) (tallyOne t (productionAt l p)) t)
+      ≡ putAll s (cond (not (isAmong (firstOf other n) (productionEntry l p))) (putOne s out t (productionEntry l p)) out)
+      (cond (not (isAmong (firstOf other n) (productionEntry l p))) (tallyOne t (productionEntry l p)) t)
       (keptFrom l (p + 1) other n)
-  put-next s out t = ap (putAll s out t) (kept-next l p other n h) ∙ cond-put keep s out t (productionAt l p) (keptFrom l (p + 1) other n)
+  put-next s out t = ap (putAll s out t) (kept-next l p other n h) ∙ cond-put keep s out t (productionEntry l p) (keptFrom l (p + 1) other n)
 
-  pub room-next : (t : Tally) → TallyRoom (tallyAll t (keptFrom l p other n)) → not (isAmong (firstOf other n) (productionAt l p)) ≡ true
-      → TallyRoom (tallyOne t (productionAt l p))
-  room-next t r e = cond-room keep t (productionAt l p) (keptFrom l (p + 1) other n) (rw (kept-next l p other n h) at r) e
+  pub room-next : (t : Tally) → TallyRoom (tallyAll t (keptFrom l p other n)) → not (isAmong (firstOf other n) (productionEntry l p)) ≡ true
+      → TallyRoom (tallyOne t (productionEntry l p))
+  room-next t r e = cond-room keep t (productionEntry l p) (keptFrom l (p + 1) other n) (rw (kept-next l p other n h) at r) e
 
-module _ (l : List ℕ) (p : ℕ) (other : List ℕ) (n : ℕ) (h : productionCount l ≤ p) where
+module _ (l : List ℕ) (p : ℕ) (other : List ℕ) (n : ℕ) (h : productionTotal l ≤ p) where
   pub tally-done : (t : Tally) → tallyAll t (keptFrom l p other n) ≡ t
   unfolding tallyAll
   tally-done t = rw (kept-done l p other n h)

@@ -10,12 +10,12 @@ use Rattle.model.specs.Lists.{all, those}
 use Rattle.model.specs.Tables.{Call, Production, Table}
 use Rattle.model.specs.Merging.{sameEvents, isAmong, without, mergedProductions, mergedTable}
 use Rattle.model.specs.declared.events.Directive.{Directive}
-use Rattle.tables.specs.Reading.{productionCount, directiveIn, decode}
+use Rattle.tables.specs.Reading.{productionTotal, directiveIn, decode}
 use Rattle.tables.specs.Fitting.{callInRange, fitting}
 use Rattle.tables.specs.Whole.{whole}
 use Rattle.tables.proofs.Facts.{fit-facts, CallFacts, call-facts}
 use Rattle.tables.proofs.MergedFits.{flat-all}
-use Rattle.merger.specs.Kept.{firstOf, restOf, keptFrom, inText, fromText}
+use Rattle.merger.specs.Kept.{firstOf, restOf, keptFrom, markedCall, fromText}
 use Rattle.merger.proofs.WholeFacts as facts
 use Rattle.merger.proofs.Tallies.{all-productions}
 
@@ -54,13 +54,13 @@ without-marked b qs (p ∷ ps) =
 
 -- ---- The calls of a table that is not merged are marked as the first text's
 
-unmarked-calls : (t : Table) (cs : List Call) → t .merged ≡ false → all (callInRange t) cs ≡ true → map (inText false) cs ≡ cs
+unmarked-calls : (t : Table) (cs : List Call) → t .merged ≡ false → all (callInRange t) cs ≡ true → map (markedCall false) cs ≡ cs
 unmarked-calls t [] m e = refl
 unmarked-calls t (c ∷ cs) m e =
     let f : CallFacts t c = call-facts t c (and-left (callInRange t c) (all (callInRange t) cs) e) in
     let s : c .second ≡ false = not-true (c .second) (rw m at (f .mark)) in
     let r = unmarked-calls t cs m (and-right (callInRange t c) (all (callInRange t) cs) e) in
-    rw r (ap (λ (b : Bool). inText b c ∷ cs) (sym s))
+    rw r (ap (λ (b : Bool). markedCall b c ∷ cs) (sym s))
 
 unmarked-from : (t : Table) (ps : List Production) → t .merged ≡ false → all (λ (p : Production). all (callInRange t) (p .calls)) ps ≡ true
     → map (fromText false) ps ≡ ps
@@ -81,9 +81,9 @@ module _ (l other : List ℕ) where
   unfolding keptFrom firstOf run without
   kept-none = those-all (restOf l 0) ∙ all-productions l
 
-  pub kept-all : keptFrom l 0 other (productionCount other) ≡ without (decode other .productions) (decode l .productions)
+  pub kept-all : keptFrom l 0 other (productionTotal other) ≡ without (decode other .productions) (decode l .productions)
   unfolding keptFrom firstOf decode
-  kept-all = ap (without (run _ 0 (productionCount other))) (all-productions l)
+  kept-all = ap (without (run _ 0 (productionTotal other))) (all-productions l)
 
 -- ---- The merge
 
@@ -91,9 +91,9 @@ module _ (l other : List ℕ) where
 unfoldable pub piecesBy : Directive → (old new : List ℕ) → List Production
 piecesBy Directive.Replace old new = map (fromText true) (keptFrom new 0 old 0)
 piecesBy Directive.Override old new =
-    map (fromText true) (keptFrom new 0 old 0) ++ map (fromText false) (keptFrom old 0 new (productionCount new))
+    map (fromText true) (keptFrom new 0 old 0) ++ map (fromText false) (keptFrom old 0 new (productionTotal new))
 piecesBy Directive.Augment old new =
-    map (fromText false) (keptFrom old 0 new 0) ++ map (fromText true) (keptFrom new 0 old (productionCount old))
+    map (fromText false) (keptFrom old 0 new 0) ++ map (fromText true) (keptFrom new 0 old (productionTotal old))
 
 module _ (old new : List ℕ) (wo : whole old ≡ true) (mo : decode old .merged ≡ false) where
   abbrev os : List Production

@@ -9,8 +9,8 @@ use Rattle.words.specs.Words.{cleared}
 use Rattle.model.specs.Tables.{Production, Table}
 use Rattle.model.specs.Merging.{mergedTable, mergePassesLimit}
 use Rattle.model.specs.declared.events.Directive.{Directive}
-use Rattle.tables.specs.Layout.{Entries, flag, directiveWord, eventsOf, callsOf, parametersOf, headerOf, entriesOf, image, encode, tableLength}
-use Rattle.tables.specs.Reading.{productionCount, directiveIn, firstLengthIn, decode}
+use Rattle.tables.specs.Layout.{Entries, flag, directiveWord, allEvents, allCalls, allParameters, headerOf, entriesOf, image, encode, tableLength}
+use Rattle.tables.specs.Reading.{productionTotal, directiveIn, firstLengthIn, decode}
 use Rattle.tables.specs.Writing.{putTexts, putCounts, noEntries, withHeader}
 use Rattle.tables.specs.Fitting.{fitting}
 use Rattle.tables.specs.Whole.{whole}
@@ -51,17 +51,17 @@ module _ (rest : List ℕ) where
       → putBy d old new (image noEntries ++ rest) ≡ image (bodyOf (piecesBy d old new)) ++ rest
   unfolding putBy tallyBy piecesBy
   put-pieces Directive.Replace old new r = first-list true (keptFrom new 0 old 0) r
-  put-pieces Directive.Override old new r = both-lists true false (keptFrom new 0 old 0) (keptFrom old 0 new (productionCount new)) r
-  put-pieces Directive.Augment old new r = both-lists false true (keptFrom old 0 new 0) (keptFrom new 0 old (productionCount old)) r
+  put-pieces Directive.Override old new r = both-lists true false (keptFrom new 0 old 0) (keptFrom old 0 new (productionTotal new)) r
+  put-pieces Directive.Augment old new r = both-lists false true (keptFrom old 0 new 0) (keptFrom new 0 old (productionTotal old)) r
 
 -- ---- The header
 
 -- the header of a merge, by its counts
 header-by : (old new : Table) (a b c d : ℕ)
     → a ≡ length (mergedTable old new .productions)
-    → b ≡ length (eventsOf (mergedTable old new .productions))
-    → c ≡ length (callsOf (mergedTable old new .productions))
-    → d ≡ length (parametersOf (callsOf (mergedTable old new .productions)))
+    → b ≡ length (allEvents (mergedTable old new .productions))
+    → c ≡ length (allCalls (mergedTable old new .productions))
+    → d ≡ length (allParameters (allCalls (mergedTable old new .productions)))
     → withHeader (bodyOf (mergedTable old new .productions)) (directiveWord Directive.Replace ∷ flag 1 true ∷ old .firstLength ∷ new .firstLength ∷ a ∷ b ∷ c ∷ d ∷ [])
     ≡ entriesOf (mergedTable old new)
 unfolding entriesOf headerOf bodyOf mergedTable
@@ -114,9 +114,9 @@ module _ (old new : List ℕ) (wo : whole old ≡ true) (wn : whole new ≡ true
       let ps : List Production = M .productions in
       let rest : List ℕ = drop tableLength out in
       let a : t .productions ≡ length ps = ap (λ (u : Tally). u .productions) tally-there ∙ sums .productions ∙ zero-add _ in
-      let b : t .events ≡ length (eventsOf ps) = ap (λ (u : Tally). u .events) tally-there ∙ sums .events ∙ zero-add _ in
-      let c : t .calls ≡ length (callsOf ps) = ap (λ (u : Tally). u .calls) tally-there ∙ sums .calls ∙ zero-add _ in
-      let d : t .parameters ≡ length (parametersOf (callsOf ps)) = ap (λ (u : Tally). u .parameters) tally-there ∙ sums .parameters ∙ zero-add _ in
+      let b : t .events ≡ length (allEvents ps) = ap (λ (u : Tally). u .events) tally-there ∙ sums .events ∙ zero-add _ in
+      let c : t .calls ≡ length (allCalls ps) = ap (λ (u : Tally). u .calls) tally-there ∙ sums .calls ∙ zero-add _ in
+      let d : t .parameters ≡ length (allParameters (allCalls ps)) = ap (λ (u : Tally). u .parameters) tally-there ∙ sums .parameters ∙ zero-add _ in
       let r = body-room ps (subst (λ (u : Tally). TallyRoom u) tally-there room) in
       ap (λ (l : List ℕ). putCounts (putTexts l Directive.Replace true (firstLengthIn old) (firstLengthIn new)) (t .productions) (t .events) (t .calls) (t .parameters))
       (ap (λ (l : List ℕ). putBy (directiveIn new) old new l) (cleared-holds out) ∙ body-there rest ∙ ap (λ (x : Entries). image x ++ rest) (sym (bare-body ps)))

@@ -10,7 +10,7 @@ use Rattle.model.specs.Tables.{Production}
 use Rattle.model.specs.Counts.{elementsOf, expanded}
 use Rattle.model.specs.Merging.{sameEvent, sameEvents, isAmong, without}
 use Rattle.model.specs.declared.events.KeptEvent.{KeptEvent}
-use Rattle.tables.specs.Reading.{productionCount, productionAt}
+use Rattle.tables.specs.Reading.{productionTotal, productionEntry}
 use Rattle.merger.specs.Kept.{firstOf, restOf, keptFrom}
 
 -- ---- Runs
@@ -97,12 +97,12 @@ pub or-no : (a b : Bool) → a ≡ false → (a || b) ≡ b
 or-no a b e = rw e
 
 module _ (l : List ℕ) (p : ℕ) (other : List ℕ) (n : ℕ) where
-  pub kept-next : p < productionCount l
+  pub kept-next : p < productionTotal l
       → keptFrom l p other n
-      ≡ cond (not (isAmong (firstOf other n) (productionAt l p))) (productionAt l p ∷ keptFrom l (p + 1) other n) (keptFrom l (p + 1) other n)
+      ≡ cond (not (isAmong (firstOf other n) (productionEntry l p))) (productionEntry l p ∷ keptFrom l (p + 1) other n) (keptFrom l (p + 1) other n)
   unfolding keptFrom restOf without
-  kept-next h = rw (run-next (productionAt l) (productionCount l) p h)
+  kept-next h = rw (run-next (productionEntry l) (productionTotal l) p h)
 
-  pub kept-done : productionCount l ≤ p → keptFrom l p other n ≡ []
+  pub kept-done : productionTotal l ≤ p → keptFrom l p other n ≡ []
   unfolding keptFrom restOf without
-  kept-done h = rw (run-done (productionAt l) p (productionCount l) p h)
+  kept-done h = rw (run-done (productionEntry l) p (productionTotal l) p h)

@@ -9,12 +9,12 @@ use Rattle.model.specs.Lists.{inAll, those}
 use Rattle.model.specs.Counts.{sequence}
 use Rattle.model.specs.Tables.{Call, Production}
 use Rattle.model.specs.Merging.{isAmong, without}
-use Rattle.tables.specs.Layout.{flat, eventsOf, callsOf, parametersOf}
-use Rattle.tables.specs.Reading.{productionCount, decode}
+use Rattle.tables.specs.Layout.{flat, allEvents, allCalls, allParameters}
+use Rattle.tables.specs.Reading.{productionTotal, decode}
 use Rattle.tables.specs.Whole.{whole}
 use Rattle.tables.proofs.Lists.{length-flat, inAll-flat}
 use Rattle.tables.proofs.Facts.{LimitFacts, events-in-all}
-use Rattle.merger.specs.Kept.{firstOf, restOf, keptFrom, inText, fromText}
+use Rattle.merger.specs.Kept.{firstOf, restOf, keptFrom, markedCall, fromText}
 use Rattle.merger.specs.Counting.{noTally, tallyOne, tallyAll, TallyBelow, TallyRoom}
 use Rattle.merger.specs.declared.count.Tally.{Tally}
 use Rattle.merger.proofs.WholeFacts as facts
@@ -75,20 +75,20 @@ room-below t r =
 
 pub record TallySums (t : Tally) (ps : List Production) : Type 0 where
   pub productions : tallyAll t ps .productions ≡ t .productions + length ps
-  pub events : tallyAll t ps .events ≡ t .events + length (eventsOf ps)
+  pub events : tallyAll t ps .events ≡ t .events + length (allEvents ps)
   pub expanded : tallyAll t ps .expanded ≡ t .expanded + inAll (λ (p : Production). length (sequence p)) ps
-  pub calls : tallyAll t ps .calls ≡ t .calls + length (callsOf ps)
-  pub parameters : tallyAll t ps .parameters ≡ t .parameters + length (parametersOf (callsOf ps))
+  pub calls : tallyAll t ps .calls ≡ t .calls + length (allCalls ps)
+  pub parameters : tallyAll t ps .parameters ≡ t .parameters + length (allParameters (allCalls ps))
 
-parameters-append : (cs ds : List Call) → length (parametersOf (cs ++ ds)) ≡ length (parametersOf cs) + length (parametersOf ds)
+parameters-append : (cs ds : List Call) → length (allParameters (cs ++ ds)) ≡ length (allParameters cs) + length (allParameters ds)
 unfolding flat
 parameters-append [] ds = omega arith
 parameters-append (c ∷ cs) ds =
     omega (
       arith,
       parameters-append cs ds,
-      length-append (c .parameters) (parametersOf (cs ++ ds)),
-      length-append (c .parameters) (parametersOf cs),
+      length-append (c .parameters) (allParameters (cs ++ ds)),
+      length-append (c .parameters) (allParameters cs),
     )
 
 pub tally-sums : (t : Tally) (ps : List Production) → TallySums t ps
@@ -98,10 +98,10 @@ tally-sums t (p ∷ ps) =
     let r : TallySums (tallyOne t p) ps = tally-sums (tallyOne t p) ps in
     record {
       productions = omega (arith, r .productions);
-      events = omega (arith, r .events, length-append (p .events) (eventsOf ps));
+      events = omega (arith, r .events, length-append (p .events) (allEvents ps));
       expanded = omega (arith, r .expanded);
-      calls = omega (arith, r .calls, length-append (p .calls) (callsOf ps));
-      parameters = omega (arith, r .parameters, parameters-append (p .calls) (callsOf ps));
+      calls = omega (arith, r .calls, length-append (p .calls) (allCalls ps));
+      parameters = omega (arith, r .parameters, parameters-append (p .calls) (allCalls ps));
     }
 
 pub tally-append : (t : Tally) (ps qs : List Production) → tallyAll t (ps ++ qs) ≡ tallyAll (tallyAll t ps) qs
@@ -111,14 +111,14 @@ tally-append t (p ∷ ps) qs = tally-append (tallyOne t p) ps qs
 
 -- ---- Marks play no part
 
-pub parameters-marked : (b : Bool) (cs : List Call) → parametersOf (map (inText b) cs) ≡ parametersOf cs
+pub parameters-marked : (b : Bool) (cs : List Call) → allParameters (map (markedCall b) cs) ≡ allParameters cs
 unfolding flat
 parameters-marked b [] = refl
 parameters-marked b (c ∷ cs) = rw (parameters-marked b cs)
 
 one-marked : (b : Bool) (t : Tally) (p : Production) → tallyOne t (fromText b p) ≡ tallyOne t p
 unfolding tallyOne sequence
-one-marked b t p = rw (length-map (p .calls) (inText b), parameters-marked b (p .calls))
+one-marked b t p = rw (length-map (p .calls) (markedCall b), parameters-marked b (p .calls))
 
 pub tally-marked : (b : Bool) (t : Tally) (ps : List Production) → tallyAll t (map (fromText b) ps) ≡ tallyAll t ps
 unfolding tallyAll
@@ -152,12 +152,12 @@ module _ {A : Type 0} (keep : A → Bool) where
       go true q h = rw q (omega arith)
       go false q h = rw q (omega arith)
 
-all-parameters : (ps : List Production) → length (parametersOf (callsOf ps)) ≡ inAll (λ (p : Production). inAll (λ (c : Call). length (c .parameters)) (p .calls)) ps
-all-parameters ps = length-flat (λ (c : Call). c .parameters) (callsOf ps) ∙ inAll-flat (λ (c : Call). length (c .parameters)) (λ (p : Production). p .calls) ps
+all-parameters : (ps : List Production) → length (allParameters (allCalls ps)) ≡ inAll (λ (p : Production). inAll (λ (c : Call). length (c .parameters)) (p .calls)) ps
+all-parameters ps = length-flat (λ (c : Call). c .parameters) (allCalls ps) ∙ inAll-flat (λ (c : Call). length (c .parameters)) (λ (p : Production). p .calls) ps
 
 pub all-productions : (l : List ℕ) → restOf l 0 ≡ decode l .productions
 unfolding restOf decode
-all-productions l = let e : productionCount l - 0 ≡ productionCount l = omega arith in rw e
+all-productions l = let e : productionTotal l - 0 ≡ productionTotal l = omega arith in rw e
 
 module _ (l : List ℕ) (w : whole l ≡ true) (other : List ℕ) (n b : ℕ) (t : Tally) (r : TallyBelow b t) where
   abbrev ps : List Production

@@ -20,7 +20,7 @@ use Rattle.tables.specs.Reading.{decode}
 use Rattle.tables.specs.Fitting.{textsInRange, fitting}
 use Rattle.tables.specs.Whole.{whole}
 use Rattle.tables.proofs.Theorems.{whole-encode, decode-encode, encode-empty}
-use Rattle.merger.specs.Merge.{mergeNumber, answerOf, mergeAnswer, mergedBytes}
+use Rattle.merger.specs.Merge.{mergeNumber, numberAnswer, mergeAnswer, mergedBytes}
 use Rattle.merger.proofs.Answer.{not-no}
 use Rattle.merger.proofs.Result.{result-whole, result-decode}
 
@@ -44,7 +44,7 @@ clear-order false false false false false false false true z = absurd (omega ari
 clear-order false false false false false false false false z =
     record { oldNotWhole = refl; newNotWhole = refl; oldMerged = refl; newMerged = refl; past = refl }
 
-answer-zero : (n : ℕ) → answerOf n ≡ Merged.Accepted → n ≡ 0
+answer-zero : (n : ℕ) → numberAnswer n ≡ Merged.Accepted → n ≡ 0
 answer-zero n e = go (eqb n 0) refl
   where
     go : (t : Bool) → eqb n 0 ≡ t → n ≡ 0
@@ -54,10 +54,10 @@ answer-zero n e = go (eqb n 0) refl
         let z : _≡_ {A = ℕ} 0 1 = cc in
         absurd (omega arith)
 
-answer-of : (n : ℕ) → mergedNumber (answerOf n) ≡ n
+answer-of : (n : ℕ) → mergedNumber (numberAnswer n) ≡ n
 answer-of n = go (eqb n 0) refl
   where
-    go : (t : Bool) → eqb n 0 ≡ t → mergedNumber (answerOf n) ≡ n
+    go : (t : Bool) → eqb n 0 ≡ t → mergedNumber (numberAnswer n) ≡ n
     go true q = rw q (sym (eqb-true n 0 q))
     go false q = rw q
 

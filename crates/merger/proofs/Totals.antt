@@ -14,8 +14,8 @@ use Rattle.model.specs.Compiling.{productionPasses, totalsPass, passesLimit}
 use Rattle.model.specs.Tables.{Call, Production}
 use Rattle.model.specs.Merging.{fromSecond, markSecond, mergedTable, mergePassesLimit}
 use Rattle.model.specs.declared.events.Directive.{Directive}
-use Rattle.tables.specs.Layout.{callsOf, parametersOf}
-use Rattle.tables.specs.Reading.{productionCount, directiveIn, decode}
+use Rattle.tables.specs.Layout.{allCalls, allParameters}
+use Rattle.tables.specs.Reading.{productionTotal, directiveIn, decode}
 use Rattle.tables.specs.Whole.{whole}
 use Rattle.tables.proofs.Lists.{all-none, all-weaker, length-flat, inAll-flat}
 use Rattle.tables.proofs.Facts.{LimitFacts, limit-facts, ProductionFacts, production-facts, facts-production, events-in-all}
@@ -34,19 +34,19 @@ unfolding tallyBy piecesBy
 tally-pieces Directive.Replace old new = sym (tally-marked true noTally (keptFrom new 0 old 0))
 tally-pieces Directive.Override old new =
     sym
-    (tally-append noTally (map (fromText true) (keptFrom new 0 old 0)) (map (fromText false) (keptFrom old 0 new (productionCount new)))
-    ∙ tally-marked false (tallyAll noTally (map (fromText true) (keptFrom new 0 old 0))) (keptFrom old 0 new (productionCount new))
-    ∙ ap (λ (t : Tally). tallyAll t (keptFrom old 0 new (productionCount new))) (tally-marked true noTally (keptFrom new 0 old 0)))
+    (tally-append noTally (map (fromText true) (keptFrom new 0 old 0)) (map (fromText false) (keptFrom old 0 new (productionTotal new)))
+    ∙ tally-marked false (tallyAll noTally (map (fromText true) (keptFrom new 0 old 0))) (keptFrom old 0 new (productionTotal new))
+    ∙ ap (λ (t : Tally). tallyAll t (keptFrom old 0 new (productionTotal new))) (tally-marked true noTally (keptFrom new 0 old 0)))
 tally-pieces Directive.Augment old new =
     sym
-    (tally-append noTally (map (fromText false) (keptFrom old 0 new 0)) (map (fromText true) (keptFrom new 0 old (productionCount old)))
-    ∙ tally-marked true (tallyAll noTally (map (fromText false) (keptFrom old 0 new 0))) (keptFrom new 0 old (productionCount old))
-    ∙ ap (λ (t : Tally). tallyAll t (keptFrom new 0 old (productionCount old))) (tally-marked false noTally (keptFrom old 0 new 0)))
+    (tally-append noTally (map (fromText false) (keptFrom old 0 new 0)) (map (fromText true) (keptFrom new 0 old (productionTotal old)))
+    ∙ tally-marked true (tallyAll noTally (map (fromText false) (keptFrom old 0 new 0))) (keptFrom new 0 old (productionTotal old))
+    ∙ ap (λ (t : Tally). tallyAll t (keptFrom new 0 old (productionTotal old))) (tally-marked false noTally (keptFrom old 0 new 0)))
 
 -- ---- Limits
 
-all-parameters : (ps : List Production) → length (parametersOf (callsOf ps)) ≡ inAll (λ (p : Production). inAll (λ (c : Call). length (c .parameters)) (p .calls)) ps
-all-parameters ps = length-flat (λ (c : Call). c .parameters) (callsOf ps) ∙ inAll-flat (λ (c : Call). length (c .parameters)) (λ (p : Production). p .calls) ps
+all-parameters : (ps : List Production) → length (allParameters (allCalls ps)) ≡ inAll (λ (p : Production). inAll (λ (c : Call). length (c .parameters)) (p .calls)) ps
+all-parameters ps = length-flat (λ (c : Call). c .parameters) (allCalls ps) ∙ inAll-flat (λ (c : Call). length (c .parameters)) (λ (p : Production). p .calls) ps
 
 totals-pass : (ps : List Production) → tallyPasses (tallyAll noTally ps) ≡ totalsPass ps
 unfolding tallyPasses totalsPass

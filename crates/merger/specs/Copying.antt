@@ -5,8 +5,8 @@ use mathlib.Core.List.{List, [], _∷_}
 use lib.ListN.{length}
 use Rattle.model.specs.Tables.{Call, Production}
 use Rattle.model.specs.declared.events.Directive.{Directive}
-use Rattle.tables.specs.Layout.{parametersOf}
-use Rattle.tables.specs.Reading.{productionCount, directiveIn, firstLengthIn}
+use Rattle.tables.specs.Layout.{allParameters}
+use Rattle.tables.specs.Reading.{productionTotal, directiveIn, firstLengthIn}
 use Rattle.tables.specs.Writing.{putEvent, putCall, putParameter, putProduction, putTexts, putCounts}
 use Rattle.merger.specs.Kept.{keptFrom}
 use Rattle.merger.specs.Counting.{noTally, tallyOne, tallyAll, tallyMerged}
@@ -29,7 +29,7 @@ putOne second l t p =
     (puts putParameter
     (puts (putCallIn second) (puts putEvent l (t .events) (p .events)) (t .calls) (p .calls))
     (t .parameters)
-    (parametersOf (p .calls)))
+    (allParameters (p .calls)))
     (t .productions)
     (length (p .events))
     (length (p .calls))
@@ -45,12 +45,12 @@ putBy Directive.Override old new out =
     putAll false
     (putAll true out noTally (keptFrom new 0 old 0))
     (tallyAll noTally (keptFrom new 0 old 0))
-    (keptFrom old 0 new (productionCount new))
+    (keptFrom old 0 new (productionTotal new))
 putBy Directive.Augment old new out =
     putAll true
     (putAll false out noTally (keptFrom old 0 new 0))
     (tallyAll noTally (keptFrom old 0 new 0))
-    (keptFrom new 0 old (productionCount old))
+    (keptFrom new 0 old (productionTotal old))
 
 -- and the header: "The result counts as replace and as merged"
 unfoldable pub putMerged : (old new out : List ℕ) → List ℕ

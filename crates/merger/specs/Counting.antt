@@ -7,8 +7,8 @@ use lib.ListN.{length}
 use Rattle.model.specs.Counts.{sequence}
 use Rattle.model.specs.Tables.{Production}
 use Rattle.model.specs.declared.events.Directive.{Directive}
-use Rattle.tables.specs.Layout.{parametersOf}
-use Rattle.tables.specs.Reading.{productionCount, productionEvents, productionCalls, eventsFrom, callsFrom, parametersFrom, directiveIn}
+use Rattle.tables.specs.Layout.{allParameters}
+use Rattle.tables.specs.Reading.{productionTotal, productionEvents, productionCalls, firstEvent, firstCall, firstParameter, directiveIn}
 use Rattle.merger.specs.Kept.{keptFrom}
 use Rattle.merger.specs.declared.count.Tally.{Tally}
 use Rattle.merger.specs.declared.count.Extent.{Extent}
@@ -17,12 +17,12 @@ use Rattle.merger.specs.declared.count.Extent.{Extent}
 unfoldable pub extentAt : List ℕ → ℕ → Extent
 extentAt l p =
     record {
-      event = eventsFrom l p;
+      event = firstEvent l p;
       events = productionEvents l p;
-      call = callsFrom l p;
+      call = firstCall l p;
       calls = productionCalls l p;
-      parameter = parametersFrom l (callsFrom l p);
-      parameters = parametersFrom l (callsFrom l p + productionCalls l p) - parametersFrom l (callsFrom l p);
+      parameter = firstParameter l (firstCall l p);
+      parameters = firstParameter l (firstCall l p + productionCalls l p) - firstParameter l (firstCall l p);
     }
 
 abbrev pub noTally : Tally
@@ -36,7 +36,7 @@ tallyOne t p =
       events = t .events + length (p .events);
       expanded = t .expanded + length (sequence p);
       calls = t .calls + length (p .calls);
-      parameters = t .parameters + length (parametersOf (p .calls));
+      parameters = t .parameters + length (allParameters (p .calls));
     }
 
 unfoldable pub tallyAll : Tally → List Production → Tally
@@ -47,9 +47,9 @@ tallyAll t (p ∷ ps) = tallyAll (tallyOne t p) ps
 unfoldable pub tallyBy : Directive → (old new : List ℕ) → Tally
 tallyBy Directive.Replace old new = tallyAll noTally (keptFrom new 0 old 0)
 tallyBy Directive.Override old new =
-    tallyAll (tallyAll noTally (keptFrom new 0 old 0)) (keptFrom old 0 new (productionCount new))
+    tallyAll (tallyAll noTally (keptFrom new 0 old 0)) (keptFrom old 0 new (productionTotal new))
 tallyBy Directive.Augment old new =
-    tallyAll (tallyAll noTally (keptFrom old 0 new 0)) (keptFrom new 0 old (productionCount old))
+    tallyAll (tallyAll noTally (keptFrom old 0 new 0)) (keptFrom new 0 old (productionTotal old))
 
 unfoldable pub tallyMerged : (old new : List ℕ) → Tally
 tallyMerged old new = tallyBy (directiveIn new) old new

@@ -25,11 +25,11 @@ mergeNumber old new out =
     (decode new .merged)
     (mergePassesLimit (decode old) (decode new))
 
-abbrev pub answerOf : ℕ → Merged
-answerOf number = cond (eqb number noRefusal) Merged.Accepted (Merged.Refused number)
+abbrev pub numberAnswer : ℕ → Merged
+numberAnswer number = cond (eqb number noRefusal) Merged.Accepted (Merged.Refused number)
 
 unfoldable pub mergeAnswer : (old new out : List ℕ) → Merged
-mergeAnswer old new out = answerOf (mergeNumber old new out)
+mergeAnswer old new out = numberAnswer (mergeNumber old new out)
 
 -- "After a refusal by 1 lent memory is unchanged. After any other .. the output table all zero". Bytes past the table stay
 unfoldable pub mergedBytes : (old new out : List ℕ) → List ℕ

@@ -7,9 +7,10 @@ ghost use Prim.Native.Nat.{_+_, _≤_, _<_};
 ghost use lib.ListN.{length};
 ghost use Rattle.words.specs.Runs.{run};
 ghost use Rattle.model.specs.Merging.{sameDetail, sameEvent, sameEvents, isAmong};
-ghost use Rattle.tables.specs.Reading.{productionCount, eventAt, productionAt};
+ghost use Rattle.tables.specs.Reading.{productionTotal, eventEntry, productionEntry};
 ghost use Rattle.tables.specs.Whole.{whole};
 ghost use Rattle.merger.specs.Kept.{firstOf};
+ghost use Rattle.tables.specs.Layout.{tableLength};
 
 fn same_detail(d: Detail, e: Detail) -> bool
     ensures { λ r. ⌜ r ≡ sameDetail d e ⌝ }
@@ -40,8 +41,8 @@ fn same_event(e: KeptEvent, f: KeptEvent) -> bool
 
 // Whether n events of a table, from one on, equal n of another.
 fn same_events(l: &[u8], a: usize, other: &[u8], b: usize, n: usize) -> bool
-    requires { ⌜ ((5904 ≤ length (now l)) × (a + n ≤ 256)) × ((5904 ≤ length (now other)) × (b + n ≤ 256)) ⌝ }
-    ensures { λ r. ⌜ r ≡ sameEvents (run (eventAt (now (l .entry))) a n) (run (eventAt (now (other .entry))) b n) ⌝ }
+    requires { ⌜ ((tableLength ≤ length (now l)) × (a + n ≤ 256)) × ((tableLength ≤ length (now other)) × (b + n ≤ 256)) ⌝ }
+    ensures { λ r. ⌜ r ≡ sameEvents (run (eventEntry (now (l .entry))) a n) (run (eventEntry (now (other .entry))) b n) ⌝ }
 {
     let mut i: usize = 0;
     while i < n {
@@ -58,8 +59,8 @@ fn same_events(l: &[u8], a: usize, other: &[u8], b: usize, n: usize) -> bool
 
 // Whether n events of a table equal m of another.
 fn same_lists(l: &[u8], a: usize, n: usize, other: &[u8], b: usize, m: usize) -> bool
-    requires { ⌜ ((5904 ≤ length (now l)) × (a + n ≤ 256)) × ((5904 ≤ length (now other)) × (b + m ≤ 256)) ⌝ }
-    ensures { λ r. ⌜ r ≡ sameEvents (run (eventAt (now (l .entry))) a n) (run (eventAt (now (other .entry))) b m) ⌝ }
+    requires { ⌜ ((tableLength ≤ length (now l)) × (a + n ≤ 256)) × ((tableLength ≤ length (now other)) × (b + m ≤ 256)) ⌝ }
+    ensures { λ r. ⌜ r ≡ sameEvents (run (eventEntry (now (l .entry))) a n) (run (eventEntry (now (other .entry))) b m) ⌝ }
 {
     if n != m {
         return false;
@@ -69,8 +70,8 @@ fn same_lists(l: &[u8], a: usize, n: usize, other: &[u8], b: usize, m: usize) ->
 
 // Whether some of the first n productions of `other` have the events of production p of `l`.
 pub fn is_among(l: &[u8], p: usize, other: &[u8], n: usize) -> bool
-    requires { ⌜ ((whole (now l) ≡ true) × (p < productionCount (now l))) × ((whole (now other) ≡ true) × (n ≤ productionCount (now other))) ⌝ }
-    ensures { λ r. ⌜ r ≡ isAmong (firstOf (now (other .entry)) n) (productionAt (now (l .entry)) p) ⌝ }
+    requires { ⌜ ((whole (now l) ≡ true) × (p < productionTotal (now l))) × ((whole (now other) ≡ true) × (n ≤ productionTotal (now other))) ⌝ }
+    ensures { λ r. ⌜ r ≡ isAmong (firstOf (now (other .entry)) n) (productionEntry (now (l .entry)) p) ⌝ }
 {
     let a = tables::read::events_from(l, p);
     let k = tables::read::production_events(l, p);

@@ -9,16 +9,17 @@ ghost use mathlib.Core.Bool.{true, cond};
 ghost use Prim.Native.Nat.{_+_, _≤_, _<_};
 ghost use lib.ListN.{length};
 ghost use Rattle.words.specs.Runs.{run};
-ghost use Rattle.tables.specs.Reading.{productionCount, callCount, parameterCount, eventAt, callAt, parameterAt, productionAt, directiveIn};
+ghost use Rattle.tables.specs.Reading.{productionTotal, callTotal, parameterTotal, eventEntry, callEntry, parameterEntry, productionEntry, directiveIn};
 ghost use Rattle.tables.specs.Writing.{putEvent, putParameter};
 ghost use Rattle.tables.specs.Whole.{whole};
 ghost use Rattle.merger.specs.Kept.{keptFrom};
 ghost use Rattle.merger.specs.Counting.{tallyOne, tallyAll, tallyMerged, TallyRoom};
 ghost use Rattle.merger.specs.Copying.{puts, putCallIn, putOne, putAll, putBy, putMerged};
+ghost use Rattle.tables.specs.Layout.{tableLength};
 
 fn copy_events(l: &[u8], from: usize, n: usize, out: &mut [u8], at: usize)
-    requires { ⌜ ((5904 ≤ length (now l)) × (from + n ≤ 256)) × ((5904 ≤ length (now out)) × (at + n ≤ 256)) ⌝ }
-    ensures { λ r. ⌜ now (out .exit) ≡ puts putEvent (now (out .entry)) at (run (eventAt (now (l .entry))) from n) ⌝ }
+    requires { ⌜ ((tableLength ≤ length (now l)) × (from + n ≤ 256)) × ((tableLength ≤ length (now out)) × (at + n ≤ 256)) ⌝ }
+    ensures { λ r. ⌜ now (out .exit) ≡ puts putEvent (now (out .entry)) at (run (eventEntry (now (l .entry))) from n) ⌝ }
 {
     let mut i: usize = 0;
     while i < n {
@@ -29,8 +30,8 @@ fn copy_events(l: &[u8], from: usize, n: usize, out: &mut [u8], at: usize)
 }
 
 fn copy_calls(l: &[u8], from: usize, n: usize, second: bool, out: &mut [u8], at: usize)
-    requires { ⌜ ((whole (now l) ≡ true) × (from + n ≤ callCount (now l))) × ((5904 ≤ length (now out)) × (at + n ≤ 128)) ⌝ }
-    ensures { λ r. ⌜ now (out .exit) ≡ puts (putCallIn second) (now (out .entry)) at (run (callAt (now (l .entry))) from n) ⌝ }
+    requires { ⌜ ((whole (now l) ≡ true) × (from + n ≤ callTotal (now l))) × ((tableLength ≤ length (now out)) × (at + n ≤ 128)) ⌝ }
+    ensures { λ r. ⌜ now (out .exit) ≡ puts (putCallIn second) (now (out .entry)) at (run (callEntry (now (l .entry))) from n) ⌝ }
 {
     let mut i: usize = 0;
     while i < n {
@@ -42,8 +43,8 @@ fn copy_calls(l: &[u8], from: usize, n: usize, second: bool, out: &mut [u8], at:
 }
 
 fn copy_parameters(l: &[u8], from: usize, n: usize, out: &mut [u8], at: usize)
-    requires { ⌜ ((whole (now l) ≡ true) × (from + n ≤ parameterCount (now l))) × ((5904 ≤ length (now out)) × (at + n ≤ 256)) ⌝ }
-    ensures { λ r. ⌜ now (out .exit) ≡ puts putParameter (now (out .entry)) at (run (parameterAt (now (l .entry))) from n) ⌝ }
+    requires { ⌜ ((whole (now l) ≡ true) × (from + n ≤ parameterTotal (now l))) × ((tableLength ≤ length (now out)) × (at + n ≤ 256)) ⌝ }
+    ensures { λ r. ⌜ now (out .exit) ≡ puts putParameter (now (out .entry)) at (run (parameterEntry (now (l .entry))) from n) ⌝ }
 {
     let mut i: usize = 0;
     while i < n {
@@ -55,8 +56,8 @@ fn copy_parameters(l: &[u8], from: usize, n: usize, out: &mut [u8], at: usize)
 
 // Production p, its calls marked as the first text's or the second's. The answer counts it.
 fn copy_production(l: &[u8], p: usize, second: bool, out: &mut [u8], t: Tally) -> Tally
-    requires { ⌜ ((whole (now l) ≡ true) × (p < productionCount (now l))) × ((5904 ≤ length (now out)) × TallyRoom (tallyOne t (productionAt (now l) p))) ⌝ }
-    ensures { λ r. ⌜ (r ≡ tallyOne t (productionAt (now (l .entry)) p)) × (now (out .exit) ≡ putOne second (now (out .entry)) t (productionAt (now (l .entry)) p)) ⌝ }
+    requires { ⌜ ((whole (now l) ≡ true) × (p < productionTotal (now l))) × ((tableLength ≤ length (now out)) × TallyRoom (tallyOne t (productionEntry (now l) p))) ⌝ }
+    ensures { λ r. ⌜ (r ≡ tallyOne t (productionEntry (now (l .entry)) p)) × (now (out .exit) ≡ putOne second (now (out .entry)) t (productionEntry (now (l .entry)) p)) ⌝ }
 {
     let x = extent_of(l, p);
     let next = tally_one(l, p, t);
@@ -70,8 +71,8 @@ fn copy_production(l: &[u8], p: usize, second: bool, out: &mut [u8], t: Tally) -
 }
 
 fn copy_if(keep: bool, l: &[u8], p: usize, second: bool, out: &mut [u8], t: Tally) -> Tally
-    requires { ⌜ ((whole (now l) ≡ true) × (p < productionCount (now l))) × ((5904 ≤ length (now out)) × (keep ≡ true → TallyRoom (tallyOne t (productionAt (now l) p)))) ⌝ }
-    ensures { λ r. ⌜ (r ≡ cond keep (tallyOne t (productionAt (now (l .entry)) p)) t) × (now (out .exit) ≡ cond keep (putOne second (now (out .entry)) t (productionAt (now (l .entry)) p)) (now (out .entry))) ⌝ }
+    requires { ⌜ ((whole (now l) ≡ true) × (p < productionTotal (now l))) × ((tableLength ≤ length (now out)) × (keep ≡ true → TallyRoom (tallyOne t (productionEntry (now l) p)))) ⌝ }
+    ensures { λ r. ⌜ (r ≡ cond keep (tallyOne t (productionEntry (now (l .entry)) p)) t) × (now (out .exit) ≡ cond keep (putOne second (now (out .entry)) t (productionEntry (now (l .entry)) p)) (now (out .entry))) ⌝ }
 {
     if !keep {
         return t;
@@ -81,7 +82,7 @@ fn copy_if(keep: bool, l: &[u8], p: usize, second: bool, out: &mut [u8], t: Tall
 
 // The productions of `l` whose events equal none of the first n of `other`.
 fn copy_kept(l: &[u8], other: &[u8], n: usize, second: bool, out: &mut [u8], before: Tally) -> Tally
-    requires { ⌜ (whole (now l) ≡ true) × ((whole (now other) ≡ true) × (n ≤ productionCount (now other))) × ((5904 ≤ length (now out)) × TallyRoom (tallyAll before (keptFrom (now l) 0 (now other) n))) ⌝ }
+    requires { ⌜ (whole (now l) ≡ true) × ((whole (now other) ≡ true) × (n ≤ productionTotal (now other))) × ((tableLength ≤ length (now out)) × TallyRoom (tallyAll before (keptFrom (now l) 0 (now other) n))) ⌝ }
     ensures { λ r. ⌜ (r ≡ tallyAll before (keptFrom (now (l .entry)) 0 (now (other .entry)) n)) × (now (out .exit) ≡ putAll second (now (out .entry)) before (keptFrom (now (l .entry)) 0 (now (other .entry)) n)) ⌝ }
 {
     let m = tables::read::production_count(l);
@@ -97,7 +98,7 @@ fn copy_kept(l: &[u8], other: &[u8], n: usize, second: bool, out: &mut [u8], bef
 
 // The productions of a merge, by the new table's directive.
 fn copy_merged(old: &[u8], new: &[u8], out: &mut [u8]) -> Tally
-    requires { ⌜ ((whole (now old) ≡ true) × (whole (now new) ≡ true)) × ((5904 ≤ length (now out)) × TallyRoom (tallyMerged (now old) (now new))) ⌝ }
+    requires { ⌜ ((whole (now old) ≡ true) × (whole (now new) ≡ true)) × ((tableLength ≤ length (now out)) × TallyRoom (tallyMerged (now old) (now new))) ⌝ }
     ensures { λ r. ⌜ (r ≡ tallyMerged (now (old .entry)) (now (new .entry))) × (now (out .exit) ≡ putBy (directiveIn (now (new .entry))) (now (old .entry)) (now (new .entry)) (now (out .entry))) ⌝ }
 {
     let none = Tally {
@@ -124,7 +125,7 @@ fn copy_merged(old: &[u8], new: &[u8], out: &mut [u8]) -> Tally
 
 // The whole merge, into a cleared table.
 pub fn put_merged(old: &[u8], new: &[u8], out: &mut [u8])
-    requires { ⌜ ((whole (now old) ≡ true) × (whole (now new) ≡ true)) × ((5904 ≤ length (now out)) × TallyRoom (tallyMerged (now old) (now new))) ⌝ }
+    requires { ⌜ ((whole (now old) ≡ true) × (whole (now new) ≡ true)) × ((tableLength ≤ length (now out)) × TallyRoom (tallyMerged (now old) (now new))) ⌝ }
     ensures { λ r. ⌜ now (out .exit) ≡ putMerged (now (old .entry)) (now (new .entry)) (now (out .entry)) ⌝ }
 {
     let first = tables::read::first_length(old);

@@ -9,10 +9,11 @@ ghost use Rattle.words.specs.Runs.{run};
 ghost use Rattle.model.specs.Lists.{all};
 ghost use Rattle.model.specs.Counts.{expanded};
 ghost use Rattle.tables.specs.Fitting.{eventInRange};
-ghost use Rattle.tables.specs.Reading.{productionCount, eventAt, productionAt};
+ghost use Rattle.tables.specs.Reading.{productionTotal, eventEntry, productionEntry};
 ghost use Rattle.tables.specs.Whole.{whole};
 ghost use Rattle.merger.specs.Kept.{keptFrom};
 ghost use Rattle.merger.specs.Counting.{extentAt, tallyOne, tallyAll, tallyMerged, tallyPasses, TallyBelow};
+ghost use Rattle.tables.specs.Layout.{tableLength};
 
 // How many there are.
 pub struct Tally {
@@ -35,7 +36,7 @@ pub struct Extent {
 }
 
 pub fn extent_of(l: &[u8], p: usize) -> Extent
-    requires { ⌜ (whole (now l) ≡ true) × (p < productionCount (now l)) ⌝ }
+    requires { ⌜ (whole (now l) ≡ true) × (p < productionTotal (now l)) ⌝ }
     ensures { λ r. ⌜ r ≡ extentAt (now (l .entry)) p ⌝ }
 {
     let call = tables::read::calls_from(l, p);
@@ -54,8 +55,8 @@ pub fn extent_of(l: &[u8], p: usize) -> Extent
 
 // How many events n events, from one on, stand for.
 fn expanded_of(l: &[u8], from: usize, n: usize) -> usize
-    requires { ⌜ (5904 ≤ length (now l)) × (from + n ≤ 256) × (all eventInRange (run (eventAt (now l)) from n) ≡ true) ⌝ }
-    ensures { λ r. ⌜ r ≡ length (expanded (run (eventAt (now (l .entry))) from n)) ⌝ }
+    requires { ⌜ (tableLength ≤ length (now l)) × (from + n ≤ 256) × (all eventInRange (run (eventEntry (now l)) from n) ≡ true) ⌝ }
+    ensures { λ r. ⌜ r ≡ length (expanded (run (eventEntry (now (l .entry))) from n)) ⌝ }
 {
     let mut s: usize = 0;
     let mut i: usize = 0;
@@ -69,8 +70,8 @@ fn expanded_of(l: &[u8], from: usize, n: usize) -> usize
 
 // One production more.
 pub fn tally_one(l: &[u8], p: usize, t: Tally) -> Tally
-    requires { ⌜ (whole (now l) ≡ true) × (p < productionCount (now l)) × TallyBelow 10000 t ⌝ }
-    ensures { λ r. ⌜ r ≡ tallyOne t (productionAt (now (l .entry)) p) ⌝ }
+    requires { ⌜ (whole (now l) ≡ true) × (p < productionTotal (now l)) × TallyBelow 10000 t ⌝ }
+    ensures { λ r. ⌜ r ≡ tallyOne t (productionEntry (now (l .entry)) p) ⌝ }
 {
     let x = extent_of(l, p);
     let from = x.event;
@@ -85,8 +86,8 @@ pub fn tally_one(l: &[u8], p: usize, t: Tally) -> Tally
 }
 
 fn tally_if(keep: bool, l: &[u8], p: usize, t: Tally) -> Tally
-    requires { ⌜ (whole (now l) ≡ true) × (p < productionCount (now l)) × TallyBelow 10000 t ⌝ }
-    ensures { λ r. ⌜ r ≡ cond keep (tallyOne t (productionAt (now (l .entry)) p)) t ⌝ }
+    requires { ⌜ (whole (now l) ≡ true) × (p < productionTotal (now l)) × TallyBelow 10000 t ⌝ }
+    ensures { λ r. ⌜ r ≡ cond keep (tallyOne t (productionEntry (now (l .entry)) p)) t ⌝ }
 {
     if !keep {
         return t;
@@ -96,7 +97,7 @@ fn tally_if(keep: bool, l: &[u8], p: usize, t: Tally) -> Tally
 
 // The productions of `l` whose events equal none of the first n of `other`, counted after others.
 fn tally_kept(l: &[u8], other: &[u8], n: usize, before: Tally) -> Tally
-    requires { ⌜ (whole (now l) ≡ true) × ((whole (now other) ≡ true) × (n ≤ productionCount (now other))) × TallyBelow 10000 (tallyAll before (keptFrom (now l) 0 (now other) n)) ⌝ }
+    requires { ⌜ (whole (now l) ≡ true) × ((whole (now other) ≡ true) × (n ≤ productionTotal (now other))) × TallyBelow 10000 (tallyAll before (keptFrom (now l) 0 (now other) n)) ⌝ }
     ensures { λ r. ⌜ r ≡ tallyAll before (keptFrom (now (l .entry)) 0 (now (other .entry)) n) ⌝ }
 {
     let m = tables::read::production_count(l);

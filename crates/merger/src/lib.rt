@@ -14,10 +14,11 @@ ghost use Rattle.model.specs.Merging.{mergePassesLimit};
 ghost use Rattle.tables.specs.Reading.{decode};
 ghost use Rattle.tables.specs.Whole.{whole};
 ghost use Rattle.merger.specs.Merge.{mergeAnswer, mergedBytes};
+ghost use Rattle.tables.specs.Layout.{tableLength};
 
 // The number of the first check on the tables that applies, 0 where none does.
 fn judged(old: &[u8], new: &[u8]) -> u8
-    requires { ⌜ (5904 ≤ length (now old)) × (5904 ≤ length (now new)) ⌝ }
+    requires { ⌜ (tableLength ≤ length (now old)) × (tableLength ≤ length (now new)) ⌝ }
     ensures { λ r. ⌜ r ≡ mergeOrder false false false (not (whole (now (old .entry)))) (not (whole (now (new .entry)))) (decode (now (old .entry)) .merged) (decode (now (new .entry)) .merged) (mergePassesLimit (decode (now (old .entry))) (decode (now (new .entry)))) ⌝ }
 {
     if !tables::check::whole(old) {
@@ -43,13 +44,13 @@ pub fn merge(old: &[u8], new: &[u8], out: &mut [u8]) -> Merged
     ensures answer { λ r. ⌜ r ≡ mergeAnswer (now (old .entry)) (now (new .entry)) (now (out .entry)) ⌝ }
     ensures bytes { λ r. ⌜ now (out .exit) ≡ mergedBytes (now (old .entry)) (now (new .entry)) (now (out .entry)) ⌝ }
 {
-    if old.len() < 5904 {
+    if old.len() < tables::TABLE_LENGTH {
         return Merged::Refused(1);
     }
-    if new.len() < 5904 {
+    if new.len() < tables::TABLE_LENGTH {
         return Merged::Refused(1);
     }
-    if out.len() < 5904 {
+    if out.len() < tables::TABLE_LENGTH {
         return Merged::Refused(1);
     }
     let number = judged(old, new);

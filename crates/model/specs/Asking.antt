@@ -1,6 +1,6 @@
 -- Document 01, "Numbers handed back", 16, and "What is built", "a reader of calls": what a request for a name or a parameter finds.
-use Prim.Native.Nat.{ℕ, zero, suc, _+_}
-use mathlib.Core.Bool.{Bool, true, false, cond}
+use Prim.Native.Nat.{ℕ, zero, suc}
+use mathlib.Core.Bool.{Bool, true, false}
 use mathlib.Core.List.{List, [], _∷_}
 use mathlib.Core.Option.{Option, none, some}
 use lib.ListN.{length, take, drop}
@@ -32,19 +32,19 @@ askedCall t p c = callIn (askedProduction t p) c
 unfoldable pub productionCount : Table → Counted
 productionCount t = Counted.Accepted (length (t .productions))
 
-abbrev pub callsOf : Option Production → Counted
-callsOf none = Counted.Refused notThere
-callsOf (some p) = Counted.Accepted (length (p .calls))
+abbrev pub callsAsked : Option Production → Counted
+callsAsked none = Counted.Refused notThere
+callsAsked (some p) = Counted.Accepted (length (p .calls))
 
 unfoldable pub callCount : Table → ℕ → Counted
-callCount t p = callsOf (askedProduction t p)
+callCount t p = callsAsked (askedProduction t p)
 
-abbrev pub parametersOf : Option Call → Counted
-parametersOf none = Counted.Refused notThere
-parametersOf (some c) = Counted.Accepted (length (c .parameters))
+abbrev pub parametersAsked : Option Call → Counted
+parametersAsked none = Counted.Refused notThere
+parametersAsked (some c) = Counted.Accepted (length (c .parameters))
 
 unfoldable pub parameterCount : Table → ℕ → ℕ → Counted
-parameterCount t p c = parametersOf (askedCall t p c)
+parameterCount t p c = parametersAsked (askedCall t p c)
 
 -- ---- Where
 
@@ -53,13 +53,13 @@ abbrev pub located : Bool → Span → Located
 located true s = Located.Second (s .start) (s .len)
 located false s = Located.First (s .start) (s .len)
 
-abbrev pub nameOf : Option Call → Located
-nameOf none = Located.Refused notThere
-nameOf (some c) = located (c .second) (c .name)
+abbrev pub nameAsked : Option Call → Located
+nameAsked none = Located.Refused notThere
+nameAsked (some c) = located (c .second) (c .name)
 
 -- where the name of call c of production p stands
 unfoldable pub locatedName : Table → ℕ → ℕ → Located
-locatedName t p c = nameOf (askedCall t p c)
+locatedName t p c = nameAsked (askedCall t p c)
 
 abbrev pub spanOf : Bool → Option Span → Located
 spanOf second none = Located.Refused notThere
@@ -74,6 +74,6 @@ unfoldable pub locatedParameter : Table → ℕ → ℕ → ℕ → Located
 locatedParameter t p c k = parameterOf (askedCall t p c) k
 
 -- the bytes that a span has in its text
-abbrev pub bytesOf : List ℕ → List ℕ → Bool → Span → List ℕ
-bytesOf first second true s = take (s .len) (drop (s .start) second)
-bytesOf first second false s = take (s .len) (drop (s .start) first)
+abbrev pub partBytes : List ℕ → List ℕ → Bool → Span → List ℕ
+partBytes first second true s = take (s .len) (drop (s .start) second)
+partBytes first second false s = take (s .len) (drop (s .start) first)

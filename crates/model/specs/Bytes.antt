@@ -1,7 +1,7 @@
 -- Document 01, "The text": bytes, runs of bytes, blanks.
 use Prim.Native.Nat.{ℕ, suc, _+_}
 use Prim.Native.Char.{Char, code}
-use mathlib.Core.Bool.{Bool, true, false, cond, not, _&&_, _||_}
+use mathlib.Core.Bool.{Bool, cond, not, _&&_, _||_}
 use mathlib.Core.List.{List, [], _∷_}
 use mathlib.Core.Option.{Option}
 use lib.Dec.{leb, eqb}

@@ -1,6 +1,6 @@
 -- Document 01, "The text": calls and their parameters, read at a position of a line.
 use Prim.Native.Nat.{ℕ, zero, suc, _+_, _-_}
-use mathlib.Core.Bool.{Bool, cond}
+use mathlib.Core.Bool.{cond}
 use mathlib.Core.List.{List, [], _∷_}
 use lib.Dec.{eqb, leb}
 use lib.ListN.{length}
@@ -47,13 +47,13 @@ pub data Parameters : Type 0 where
   -- the parameters, and where reading goes on past the closing bracket
   parameters : List Span → ℕ → Parameters
 
-abbrev pub oneMore : Span → Parameters → Parameters
-oneMore s broken = broken
-oneMore s (parameters ss next) = parameters (s ∷ ss) next
+abbrev pub oneParameterMore : Span → Parameters → Parameters
+oneParameterMore s broken = broken
+oneParameterMore s (parameters ss next) = parameters (s ∷ ss) next
 
 abbrev pub parametersNext : ParameterRead → (ℕ → Parameters) → Parameters
 parametersNext ParameterRead.Broken rest = broken
-parametersNext (ParameterRead.More start end next) rest = oneMore (span start end) (rest next)
+parametersNext (ParameterRead.More start end next) rest = oneParameterMore (span start end) (rest next)
 parametersNext (ParameterRead.Last start end next) rest = parameters (span start end ∷ []) next
 
 -- the parameters from a position on; fuel bounds how many

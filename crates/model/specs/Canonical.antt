@@ -1,21 +1,19 @@
 -- Document 01, "Merging and writing": the canonical text of a table.
 use Prim.Native.Nat.{ℕ, zero, suc, _+_, _/_, _%_}
-use Prim.Native.String.{String}
-use mathlib.Core.Bool.{Bool, true, false, cond, not, _&&_, _||_}
+use mathlib.Core.Bool.{Bool, false, cond, not, _&&_, _||_}
 use mathlib.Core.List.{List, [], _∷_, _++_}
 use lib.Dec.{eqb, ltb}
 use Rattle.model.specs.Lists.{bytes, all, those}
-use Rattle.model.specs.Codes.{isKey, isButton, motionNotify, hasMode, mappingNotify, takesModifiers}
+use Rattle.model.specs.Codes.{isKey, isButton, motionNotify, hasMode, takesModifiers}
 use Rattle.model.specs.Names.{Entry, nameOf, modifierEntries, protocolEntries}
 use Rattle.model.specs.Details.{buttonEntries, motionEntries, modeEntries, requestEntries}
 use Rattle.model.specs.Modifiers.{bits, isBit, isShiftOrLock, bit, caresFor}
 use Rattle.model.specs.Tables.{Call, Production, Table}
-use Rattle.model.specs.Asking.{bytesOf}
+use Rattle.model.specs.Asking.{partBytes}
 use Rattle.model.specs.declared.scan.Span.{Span}
 use Rattle.model.specs.declared.events.Detail.{Detail}
 use Rattle.model.specs.declared.events.KeptEvent.{KeptEvent}
 use Rattle.model.specs.declared.names.TypeName.{TypeName}
-use Rattle.model.specs.declared.names.EventType.{EventType}
 use Rattle.model.specs.declared.names.DetailRead.{DetailRead}
 
 -- parts with a separator between each two
@@ -129,11 +127,11 @@ eventText e =
 module _ (first second : List ℕ) where
   -- parameters are always quoted
   unfoldable pub parameterText : Bool → Span → List ℕ
-  parameterText mark s = bytes "\"" ++ (bytesOf first second mark s ++ bytes "\"")
+  parameterText mark s = bytes "\"" ++ (partBytes first second mark s ++ bytes "\"")
 
   unfoldable pub callText : Call → List ℕ
   callText c =
-      bytesOf first second (c .second) (c .name)
+      partBytes first second (c .second) (c .name)
       ++ (bytes "(" ++ (joinedBy (bytes ",") (each (parameterText (c .second)) (c .parameters)) ++ bytes ")"))
 
   -- "a comma alone between events"; "each line ended by a newline"

@@ -98,15 +98,15 @@ pub data LineOutcome : Type 0 where
   add : Production → LineOutcome
   refuse : ℕ → LineOutcome
 
--- "then 11 with that line counted"
-abbrev pub counted : List Production → Production → LineOutcome
-counted before p = cond (passesLimit (before ++ (p ∷ []))) (LineOutcome.refuse pastLimit) (add p)
+-- "then 11 with that line withinLimits"
+abbrev pub withinLimits : List Production → Production → LineOutcome
+withinLimits before p = cond (passesLimit (before ++ (p ∷ []))) (LineOutcome.refuse pastLimit) (add p)
 
 abbrev pub lineJudged : List Production → ℕ → EventsJudged → List WrittenCall → LineOutcome
-lineJudged before base (keep es) cs = counted before (record { events = es; calls = map (callOf base) cs })
+lineJudged before base (keep es) cs = withinLimits before (record { events = es; calls = map (callOf base) cs })
 lineJudged before base (EventsJudged.refuse n) cs = LineOutcome.refuse n
 
--- "4 for the whole line; then event by event ..; then 11 with that line counted"
+-- "4 for the whole line; then event by event ..; then 11 with that line withinLimits"
 abbrev pub lineFrom : List Production → ℕ → LineRead → LineOutcome
 lineFrom before base broken = LineOutcome.refuse notGrammar
 lineFrom before base (production es cs) = lineJudged before base (judgedAll es) cs

@@ -1,10 +1,8 @@
 -- Document 01, "Counts and time": what a counted event stands for, and the multi-click time.
-use Prim.Native.Nat.{ℕ, zero, suc, pred, _+_, _-_, _%_, _^_}
+use Prim.Native.Nat.{ℕ, zero, suc, _+_, _-_, _%_}
 use mathlib.Core.Bool.{Bool, true, false, cond, _||_}
 use mathlib.Core.List.{List, [], _∷_, _++_}
 use lib.Dec.{eqb, leb, ltb}
-use lib.ListN.{length}
-use Rattle.model.specs.Lists.{inAll}
 use Rattle.model.specs.Codes.{keyRelease, buttonRelease}
 use Rattle.model.specs.Tables.{Production}
 use Rattle.model.specs.declared.events.KeptEvent.{KeptEvent}

@@ -2,7 +2,7 @@
 use Prim.Native.Nat.{ℕ, _≤_, _<_}
 use mathlib.Core.Path.{_≡_}
 use mathlib.Core.Logic.{_⊎_}
-use mathlib.Core.Bool.{Bool, true, false, cond, not}
+use mathlib.Core.Bool.{true, false, cond, not}
 use mathlib.Core.List.{List, [], _∷_, _++_}
 use mathlib.Core.Option.{Option, none, some}
 use lib.Dec.{eqb}
@@ -14,7 +14,7 @@ use Rattle.model.specs.Modifiers.{bit}
 use Rattle.model.specs.Tables.{Table}
 use Rattle.model.specs.Compiling.{compiled, accepted}
 use Rattle.model.specs.Records.{isBadRecord, recordRead}
-use Rattle.model.specs.Selection.{Reading, Standing, standing}
+use Rattle.model.specs.Selection.{Standing, standing}
 use Rattle.model.specs.Matching.{readingOf, tests}
 use Rattle.model.specs.Merging.{mergedTable, mergePassesLimit}
 use Rattle.model.specs.declared.events.Event.{Event}

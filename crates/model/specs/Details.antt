@@ -1,16 +1,15 @@
 -- Document 01, "The text", "Details": what a written detail stands for.
 use Prim.Native.Nat.{ℕ, _+_, _-_, _*_}
 use Prim.Native.String.{String}
-use mathlib.Core.Bool.{Bool, true, false, cond, not, _&&_, _||_}
+use mathlib.Core.Bool.{Bool, cond, not, _&&_, _||_}
 use mathlib.Core.List.{List, [], _∷_}
 use mathlib.Core.Option.{Option, none, some}
 use lib.Dec.{eqb, ltb}
 use lib.ListN.{length, drop}
-use Rattle.model.specs.Lists.{isEmpty}
 use Rattle.model.specs.Limits.{keysymLimit, smallDetailLimit}
 use Rattle.model.specs.Bytes.{isCode, inRange, byteAt, isDigit}
 use Rattle.model.specs.Codes.{isKey, isButton, motionNotify, hasMode, mappingNotify, hasAtom}
-use Rattle.model.specs.Names.{Entry, named}
+use Rattle.model.specs.Names.{Entry, firstMeaning}
 use Rattle.model.specs.declared.names.DetailRead.{DetailRead}
 
 -- ---- Numbers
@@ -84,7 +83,7 @@ keyDetail word =
     (cond (startsHexadecimal word) (numberIn 16 keysymLimit (drop 2 word))
     (cond (isCode (byteAt word 0) "0") (numberIn 8 keysymLimit word)
     (cond (isDigit (byteAt word 0)) (numberIn 10 keysymLimit word)
-    (named keysymEntries DetailRead.Unknown word))))
+    (firstMeaning keysymEntries DetailRead.Unknown word))))
 
 -- ---- Other events
 
@@ -115,13 +114,13 @@ smallNumber word = cond (leadingZero word) DetailRead.Unknown (numberIn 10 small
 -- "The last three also take decimal"
 unfoldable pub nameOrNumber : List (Entry DetailRead) → List ℕ → DetailRead
 nameOrNumber entries word =
-    cond (isDigit (byteAt word 0)) (smallNumber word) (named entries DetailRead.Unknown word)
+    cond (isDigit (byteAt word 0)) (smallNumber word) (firstMeaning entries DetailRead.Unknown word)
 
 -- a detail of at least one byte, on an event type that fixes none
 unfoldable pub detailNamed : ℕ → List ℕ → DetailRead
 detailNamed code word =
     cond (isKey code) (keyDetail word)
-    (cond (isButton code) (named buttonEntries DetailRead.Unknown word)
+    (cond (isButton code) (firstMeaning buttonEntries DetailRead.Unknown word)
     (cond (eqb code motionNotify) (nameOrNumber motionEntries word)
     (cond (hasMode code) (nameOrNumber modeEntries word)
     (cond (eqb code mappingNotify) (nameOrNumber requestEntries word)

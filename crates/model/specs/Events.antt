@@ -1,12 +1,12 @@
 -- Document 01, "The text": an event as it is written, and a key sequence, read at a position of a line.
 use Prim.Native.Nat.{ℕ, zero, suc, _+_}
 use mathlib.Core.Bool.{Bool, true, false, cond, not, _&&_, _||_}
-use mathlib.Core.List.{List, [], _∷_, _++_, map}
+use mathlib.Core.List.{List, [], _∷_, _++_}
 use mathlib.Core.Option.{Option, none, some}
 use lib.Dec.{eqb, leb}
 use lib.ListN.{length}
 use Rattle.model.specs.Lists.{bytes, same, part, any}
-use Rattle.model.specs.Bytes.{isCode, isTab, byteAt, signAt, runEnd, skip}
+use Rattle.model.specs.Bytes.{isTab, byteAt, signAt, runEnd, skip}
 use Rattle.model.specs.declared.scan.Class.{Class}
 use Rattle.model.specs.declared.scan.Lead.{Lead}
 use Rattle.model.specs.declared.scan.ModifierRead.{ModifierRead}

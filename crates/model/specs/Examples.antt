@@ -2,15 +2,11 @@
 -- That the definitions give every answer of it is proved in proofs/Starred.
 use Prim.Native.Nat.{ℕ, _+_, _/_, _%_}
 use Prim.Native.Char.{code}
-use mathlib.Core.Bool.{Bool, cond}
 use mathlib.Core.Path.{_≡_}
 use mathlib.Core.List.{List, [], _∷_, _++_, map}
-use mathlib.Core.Option.{Option, none, some}
-use lib.Dec.{eqb}
 use lib.ListN.{length, replicate}
 use Rattle.model.specs.Lists.{bytes}
 use Rattle.model.specs.Canonical.{joinedBy}
-use Rattle.model.specs.Tables.{Table}
 use Rattle.model.specs.Compiling.{Outcome, accepted, refused, compiled}
 use Rattle.model.specs.Demand.{MatchCall, namedFrom}
 use Rattle.model.specs.declared.answers.Matched.{Matched}
@@ -30,9 +26,9 @@ pub data Answered : Type 0 where
   refusal : (number place : ℕ) → Answered
   matched : List Matched → Answered
 
-abbrev pub compileAnswer : Outcome → Answered
-compileAnswer (accepted t) = productions (length (t .productions))
-compileAnswer (refused n place) = refusal n place
+abbrev pub exampleOutcome : Outcome → Answered
+exampleOutcome (accepted t) = productions (length (t .productions))
+exampleOutcome (refused n place) = refusal n place
 
 abbrev pub selectAnswer : Outcome → List ℕ → ℕ → List MatchCall → Answered
 selectAnswer (accepted t) keysyms limit calls = matched (namedFrom t keysyms limit [] calls)
@@ -40,7 +36,7 @@ selectAnswer (refused n place) keysyms limit calls = refusal n place
 
 -- what the definitions answer
 unfoldable pub answer : Asked → Answered
-answer (compile text) = compileAnswer (compiled text)
+answer (compile text) = exampleOutcome (compiled text)
 answer (select text keysyms limit calls) = selectAnswer (compiled text) keysyms limit calls
 
 pub record Example : Type 0 where

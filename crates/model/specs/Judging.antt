@@ -1,7 +1,7 @@
 -- Document 01, "Numbers handed back", 5..10: an event of a line, refused or kept.
 use Prim.Native.Nat.{ℕ, _-_, _^_}
 use mathlib.Core.Bool.{Bool, true, false, cond, not, _&&_, _||_}
-use mathlib.Core.List.{List, [], _∷_}
+use mathlib.Core.List.{List}
 use mathlib.Core.Option.{Option, none, some}
 use lib.Dec.{eqb}
 use lib.ListN.{length}
@@ -11,7 +11,7 @@ use Rattle.model.specs.Bytes.{inRange, byteAt}
 use Rattle.model.specs.Names.{shiftBit, lockBit, ctrlBit, modifierNamed, typeNamed}
 use Rattle.model.specs.Codes.{keyPress, isKey, takesCount, takesModifiers}
 use Rattle.model.specs.Details.{detailNamed}
-use Rattle.model.specs.Events.{Modifier, name, keysym, ModifierList, Count, Written, KeyChar, WrittenEvent, event, key}
+use Rattle.model.specs.Events.{Modifier, name, keysym, ModifierList, Count, Written, WrittenEvent, event, key}
 use Rattle.model.specs.Modifiers.{modifiersOf, has, hasColon, isWritten, addsBit, setMask, clearMask, keepsClause, noStateMeets}
 use Rattle.model.specs.declared.scan.KeyMark.{KeyMark}
 use Rattle.model.specs.declared.events.Detail.{Detail}

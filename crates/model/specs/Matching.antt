@@ -1,5 +1,5 @@
 -- Document 01, "Modifier tests" and "Selection", rule 2: when events match the elements of a production; which bits a table tests.
-use Prim.Native.Nat.{ℕ, _+_}
+use Prim.Native.Nat.{ℕ}
 use mathlib.Core.Bool.{Bool, true, false, cond, not, _&&_, _||_}
 use mathlib.Core.List.{List, [], _∷_}
 use mathlib.Core.Option.{Option, none, some}

@@ -1,10 +1,10 @@
 -- Document 01, "Modifier tests": which bits an event asks set or clear, when a state meets that, which bits a table tests.
-use Prim.Native.Nat.{ℕ, _+_, _*_, _/_, _%_, _^_}
+use Prim.Native.Nat.{ℕ, _+_, _/_, _%_, _^_}
 use mathlib.Core.Bool.{Bool, true, false, cond, not, _&&_, _||_}
 use mathlib.Core.List.{List, [], _∷_}
 use lib.Dec.{eqb, ltb}
 use Rattle.model.specs.Lists.{any, all}
-use Rattle.model.specs.Names.{lockBit, firstButtonBit, modifierNamed}
+use Rattle.model.specs.Names.{modifierNamed}
 use Rattle.model.specs.Events.{Modifier, name, keysym, ModifierList, listed, noModifier, anyModifier}
 use Rattle.model.specs.declared.names.Added.{Added}
 use Rattle.model.specs.declared.names.ModifierName.{ModifierName}

@@ -6,7 +6,6 @@ use mathlib.Core.List.{List, [], _∷_, _++_}
 use Rattle.model.specs.Lists.{bytes, same}
 use Rattle.model.specs.declared.events.Detail.{Detail}
 use Rattle.model.specs.declared.names.Added.{Added}
-use Rattle.model.specs.declared.names.EventType.{EventType}
 use Rattle.model.specs.declared.names.TypeName.{TypeName}
 use Rattle.model.specs.declared.names.ModifierName.{ModifierName}
 
@@ -17,9 +16,9 @@ pub record Entry (A : Type 0) : Type 0 where
 
 module _ {A : Type 0} where
   -- what the first entry of this name stands for, or `other`
-  abbrev pub named : List (Entry A) → A → List ℕ → A
-  named [] other word = other
-  named (e ∷ es) other word = cond (same word (bytes (e .name))) (e .meaning) (named es other word)
+  abbrev pub firstMeaning : List (Entry A) → A → List ℕ → A
+  firstMeaning [] other word = other
+  firstMeaning (e ∷ es) other word = cond (same word (bytes (e .name))) (e .meaning) (firstMeaning es other word)
 
   -- the name of the first entry whose meaning passes the test, or `other`
   abbrev pub nameOf : (A → Bool) → List ℕ → List (Entry A) → List ℕ
@@ -79,7 +78,7 @@ modifierEntries =
     ∷ []
 
 unfoldable pub modifierNamed : List ℕ → ModifierName
-modifierNamed word = named modifierEntries ModifierName.Unknown word
+modifierNamed word = firstMeaning modifierEntries ModifierName.Unknown word
 
 -- ---- Event types
 
@@ -199,4 +198,4 @@ unfoldable pub typeEntries : List (Entry TypeName)
 typeEntries = protocolEntries ++ (synonymEntries ++ abbreviationEntries)
 
 unfoldable pub typeNamed : List ℕ → TypeName
-typeNamed word = named typeEntries TypeName.Unknown word
+typeNamed word = firstMeaning typeEntries TypeName.Unknown word

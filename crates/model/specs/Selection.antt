@@ -1,10 +1,9 @@
 -- Document 01, "Selection": the four rules, over the numbered history.
 use Prim.Native.Nat.{ℕ, zero, suc, pred, max, _-_}
-use mathlib.Core.Bool.{Bool, true, false, cond}
+use mathlib.Core.Bool.{Bool, false, cond}
 use mathlib.Core.List.{List}
 use mathlib.Core.Option.{Option, none, some}
-use lib.ListN.{length, take, drop}
-use Rattle.model.specs.Lists.{given}
+use lib.ListN.{take, drop}
 
 -- What the rules ask of a table.
 pub record Reading (E : Type 0) : Type 0 where

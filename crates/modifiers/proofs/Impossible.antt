@@ -6,7 +6,7 @@ use mathlib.Core.Bool.{Bool, true, false, not, _&&_, _||_, false≢true}
 use borrow.Author.Tests.{not-false}
 use Rattle.model.specs.Lists.{any, all}
 use Rattle.model.specs.Modifiers.{bit, bits, buttonBits, mask, asAsked, bitsMet, clauseMet, stateMeets, noStateMeets}
-use Rattle.modifiers.specs.Impossible.{Exact}
+use Rattle.modifiers.specs.Impossible.{ImpossibleExact}
 use Rattle.modifiers.proofs.Masks.{bit-mask, mask-below}
 use Rattle.modifiers.proofs.Below.{every, some, every-at, none-from, every-not, some-not, all-bits, any-bits, all-buttons, any-buttons, both-left, both-right}
 
@@ -116,7 +116,7 @@ not-possible : (b : Bool) (n : Bool) → n ≡ true → (b ≡ true → n ≡ fa
 not-possible true n p f = absurd (false≢true (sym (f refl) ∙ p))
 not-possible false n p f = refl
 
-pub exact : Exact
+pub exact : ImpossibleExact
 unfolding others
 exact set clear clause = (
   λ e state h. not-possible (stateMeets set clear clause state) (noStateMeets set clear clause) e (possible set clear clause state),

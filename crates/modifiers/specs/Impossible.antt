@@ -10,5 +10,5 @@ use Rattle.model.specs.Modifiers.{stateMeets, noStateMeets}
 abbrev pub Impossible : ℕ → ℕ → Bool → Type 0
 Impossible set clear clause = (state : ℕ) → state < 8192 → stateMeets set clear clause state ≡ false
 
-abbrev pub Exact : Type 0
-Exact = (set clear : ℕ) (clause : Bool) → noStateMeets set clear clause ≡ true ↔ Impossible set clear clause
+abbrev pub ImpossibleExact : Type 0
+ImpossibleExact = (set clear : ℕ) (clause : Bool) → noStateMeets set clear clause ≡ true ↔ Impossible set clear clause

@@ -3,19 +3,19 @@ use Prim.Native.Nat.{ℕ}
 use mathlib.Core.Path.{_≡_, refl}
 use mathlib.Core.List.{List}
 use mathlib.Core.Option.{none}
-use Rattle.model.specs.Names.{named, modifierNamed, typeNamed, modifierEntries, typeEntries, protocolEntries, synonymEntries, abbreviationEntries}
+use Rattle.model.specs.Names.{firstMeaning, modifierNamed, typeNamed, modifierEntries, typeEntries, protocolEntries, synonymEntries, abbreviationEntries}
 use Rattle.model.specs.Details.{keysymEntries, buttonEntries, motionEntries, modeEntries, requestEntries, nameOrNumber}
 use Rattle.model.specs.Lines.{directiveOf}
 use Rattle.model.specs.declared.names.DetailRead.{DetailRead}
 use Rattle.model.specs.declared.names.TypeName.{TypeName}
 use Rattle.model.specs.declared.names.ModifierName.{ModifierName}
-use Rattle.names.specs.Table.{nameAt, allNames, directiveEntries, modifierBits, modifierAt, typeCodes, typeAdded, typeDetails, typeAt, detailValues}
+use Rattle.names.specs.Table.{nameRow, allNames, directiveEntries, modifierBits, modifierRow, typeCodes, typeAdded, typeDetails, typeRow, detailValues}
 use Rattle.names.specs.Find.{findFrom, meaningOf, typeMeaning, detailMeaning, directiveMeaning, detailFound, foundOrNumber}
 use Rattle.names.specs.Rule.{TableHolds}
 use Rattle.names.proofs.Lookup.{found-named}
 
 pub table-holds : TableHolds
-unfolding nameAt allNames modifierBits modifierAt typeCodes typeAdded typeDetails typeAt detailValues directiveEntries modifierEntries typeEntries protocolEntries synonymEntries abbreviationEntries keysymEntries buttonEntries motionEntries modeEntries requestEntries
+unfolding nameRow allNames modifierBits modifierRow typeCodes typeAdded typeDetails typeRow detailValues directiveEntries modifierEntries typeEntries protocolEntries synonymEntries abbreviationEntries keysymEntries buttonEntries motionEntries modeEntries requestEntries
 table-holds =
     record {
       modifiers = record { names = refl; meanings = refl };
@@ -31,19 +31,19 @@ table-holds =
     }
 
 module _ (w : List ℕ) where
-  pub modifier-found : meaningOf modifierAt ModifierName.Unknown (findFrom 24 0 w) ≡ modifierNamed w
+  pub modifier-found : meaningOf modifierRow ModifierName.Unknown (findFrom 24 0 w) ≡ modifierNamed w
   unfolding modifierNamed
-  modifier-found = found-named modifierAt ModifierName.Unknown w 24 0 modifierEntries (table-holds .modifiers)
+  modifier-found = found-named modifierRow ModifierName.Unknown w 24 0 modifierEntries (table-holds .modifiers)
 
   pub type-found : meaningOf typeMeaning TypeName.Unknown (findFrom 87 24 w) ≡ typeNamed w
   unfolding typeNamed
   type-found = found-named typeMeaning TypeName.Unknown w 87 24 typeEntries (table-holds .types)
 
-  pub keysym-found : detailFound 111 136 w ≡ named keysymEntries DetailRead.Unknown w
+  pub keysym-found : detailFound 111 136 w ≡ firstMeaning keysymEntries DetailRead.Unknown w
   unfolding detailFound
   keysym-found = found-named detailMeaning DetailRead.Unknown w 25 111 keysymEntries (table-holds .keysyms)
 
-  pub button-found : detailFound 136 141 w ≡ named buttonEntries DetailRead.Unknown w
+  pub button-found : detailFound 136 141 w ≡ firstMeaning buttonEntries DetailRead.Unknown w
   unfolding detailFound
   button-found = found-named detailMeaning DetailRead.Unknown w 5 136 buttonEntries (table-holds .buttons)
 

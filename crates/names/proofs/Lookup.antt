@@ -6,20 +6,20 @@ use mathlib.Core.Path.{_≡_, refl, sym, _∙_}
 use mathlib.Core.Bool.{Bool, true, false, cond}
 use mathlib.Core.List.{List, [], _∷_}
 use Rattle.model.specs.Lists.{same, bytes}
-use Rattle.model.specs.Names.{Entry, named}
-use Rattle.names.specs.Table.{nameAt, namesIn, meaningsIn}
+use Rattle.model.specs.Names.{Entry, firstMeaning}
+use Rattle.names.specs.Table.{nameRow, namesIn, meaningsIn}
 use Rattle.names.specs.Rule.{valuesFrom, Holds}
 use Rattle.names.specs.Find.{findFrom, meaningOf}
 use Rattle.names.specs.declared.find.Found.{Found}
 
 module _ (w : List ℕ) (i to : ℕ) where
-  pub find-hit : i < to → same w (nameAt i) ≡ true → findFrom (to - i) i w ≡ Found.At i
+  pub find-hit : i < to → same w (nameRow i) ≡ true → findFrom (to - i) i w ≡ Found.At i
   unfolding findFrom
   find-hit h q =
       let e : to - i ≡ suc (to - (i + 1)) = omega arith in
       rw (e, findFrom, q)
 
-  pub find-miss : i < to → same w (nameAt i) ≡ false → findFrom (to - i) i w ≡ findFrom (to - (i + 1)) (i + 1) w
+  pub find-miss : i < to → same w (nameRow i) ≡ false → findFrom (to - i) i w ≡ findFrom (to - (i + 1)) (i + 1) w
   unfolding findFrom
   find-miss h q =
       let e : to - i ≡ suc (to - (i + 1)) = omega arith in
@@ -35,9 +35,9 @@ module _ (w : List ℕ) (i to : ℕ) where
 pub found-within : (n i : ℕ) (w : List ℕ) (k : ℕ) → findFrom n i w ≡ Found.At k → (i ≤ k) × (k < i + n)
 unfolding findFrom
 found-within zero i w k e = let z : _≡_ {A = ℕ} 0 1 = cc in omega arith
-found-within (suc n) i w k e = go (same w (nameAt i)) refl (found-within n (suc i) w k)
+found-within (suc n) i w k e = go (same w (nameRow i)) refl (found-within n (suc i) w k)
   where
-    go : (b : Bool) → same w (nameAt i) ≡ b → (findFrom n (suc i) w ≡ Found.At k → (suc i ≤ k) × (k < suc i + n)) → (i ≤ k) × (k < i + suc n)
+    go : (b : Bool) → same w (nameRow i) ≡ b → (findFrom n (suc i) w ≡ Found.At k → (suc i ≤ k) × (k < suc i + n)) → (i ≤ k) × (k < i + suc n)
     go true q ih = let z : i ≡ k = cc in omega arith
     go false q ih = let z = ih (sym (rw q) ∙ e) in omega arith
 
@@ -45,7 +45,7 @@ found-within (suc n) i w k e = go (same w (nameAt i)) refl (found-within n (suc 
 
 module _ {A : Type 0} (mean : ℕ → A) (other : A) (w : List ℕ) where
   -- so looking a word up in them is the rule's own lookup
-  pub found-named : (n i : ℕ) (es : List (Entry A)) → Holds mean n i es → meaningOf mean other (findFrom n i w) ≡ named es other w
+  pub found-named : (n i : ℕ) (es : List (Entry A)) → Holds mean n i es → meaningOf mean other (findFrom n i w) ≡ firstMeaning es other w
   unfolding findFrom
   found-named zero i [] h = refl
   found-named zero i (e ∷ es) h =
@@ -57,15 +57,15 @@ module _ {A : Type 0} (mean : ℕ → A) (other : A) (w : List ℕ) where
   found-named (suc n) i (e ∷ es) h =
       let p = h .names in
       let q = h .meanings in
-      let p₀ : nameAt i ≡ bytes (e .name) = cc in
-      let p₁ : valuesFrom n nameAt (suc i) ≡ namesIn es = cc in
+      let p₀ : nameRow i ≡ bytes (e .name) = cc in
+      let p₁ : valuesFrom n nameRow (suc i) ≡ namesIn es = cc in
       let q₀ : mean i ≡ e .meaning = cc in
       let q₁ : valuesFrom n mean (suc i) ≡ meaningsIn es = cc in
-      go (same w (nameAt i)) refl p₀ q₀ (found-named n (suc i) es (record { names = p₁; meanings = q₁ }))
+      go (same w (nameRow i)) refl p₀ q₀ (found-named n (suc i) es (record { names = p₁; meanings = q₁ }))
     where
-      go : (b : Bool) → same w (nameAt i) ≡ b → nameAt i ≡ bytes (e .name) → mean i ≡ e .meaning
-          → meaningOf mean other (findFrom n (suc i) w) ≡ named es other w
-          → meaningOf mean other (cond (same w (nameAt i)) (Found.At i) (findFrom n (suc i) w))
-          ≡ cond (same w (bytes (e .name))) (e .meaning) (named es other w)
+      go : (b : Bool) → same w (nameRow i) ≡ b → nameRow i ≡ bytes (e .name) → mean i ≡ e .meaning
+          → meaningOf mean other (findFrom n (suc i) w) ≡ firstMeaning es other w
+          → meaningOf mean other (cond (same w (nameRow i)) (Found.At i) (findFrom n (suc i) w))
+          ≡ cond (same w (bytes (e .name))) (e .meaning) (firstMeaning es other w)
       go true q p₀ q₀ ih = rw (← p₀, q) q₀
       go false q p₀ q₀ ih = rw (← p₀, q) ih

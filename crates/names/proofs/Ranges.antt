@@ -12,7 +12,7 @@ use Rattle.model.specs.Lists.{all, same, bytes}
 use Rattle.model.specs.Bytes.{inRange, isDigit}
 use Rattle.model.specs.Limits.{keysymLimit, smallDetailLimit}
 use Rattle.model.specs.Codes.{isKey, isButton, motionNotify, hasMode, mappingNotify, hasAtom}
-use Rattle.model.specs.Names.{Entry, named, modifierNamed, typeNamed, modifierEntries, typeEntries, protocolEntries, synonymEntries, abbreviationEntries}
+use Rattle.model.specs.Names.{Entry, firstMeaning, modifierNamed, typeNamed, modifierEntries, typeEntries, protocolEntries, synonymEntries, abbreviationEntries}
 use Rattle.model.specs.Details.{digitsFrom, withinLimit, numberIn, startsHexadecimal, leadingZero, keyDetail, smallNumber, nameOrNumber, detailNamed, keysymEntries, buttonEntries, motionEntries, modeEntries, requestEntries}
 use Rattle.model.specs.declared.events.Detail.{Detail}
 use Rattle.model.specs.declared.names.Added.{Added}
@@ -25,15 +25,15 @@ use Rattle.names.proofs.Digits.{both-true}
 module _ {A : Type 0} (test : A → Bool) where
   -- a test that the other meaning and every entry's meaning pass is passed by what a word stands for
   pub named-passes : (es : List (Entry A)) (other : A) (w : List ℕ) → all test (meaningsIn es) ≡ true → test other ≡ true
-      → test (named es other w) ≡ true
+      → test (firstMeaning es other w) ≡ true
   named-passes [] other w e o = o
   named-passes (x ∷ xs) other w e o =
       go (same w (bytes (x .name))) refl
       (both-true (test (x .meaning)) (all test (meaningsIn xs)) e .0)
       (named-passes xs other w (both-true (test (x .meaning)) (all test (meaningsIn xs)) e .1) o)
     where
-      go : (b : Bool) → same w (bytes (x .name)) ≡ b → test (x .meaning) ≡ true → test (named xs other w) ≡ true
-          → test (cond (same w (bytes (x .name))) (x .meaning) (named xs other w)) ≡ true
+      go : (b : Bool) → same w (bytes (x .name)) ≡ b → test (x .meaning) ≡ true → test (firstMeaning xs other w) ≡ true
+          → test (cond (same w (bytes (x .name))) (x .meaning) (firstMeaning xs other w)) ≡ true
       go true q p ih = rw q p
       go false q p ih = rw q ih
 
@@ -184,7 +184,7 @@ detail-sound code w h = go (isKey code) refl (isButton code) refl
         rw p (same-test (detailSound code) (atMost keysymLimit) (keyDetail w) (λ v. rw p) (key-most w h))
     go false p true q =
         rw (p, q)
-        (same-test (detailSound code) (λ v. inRange 1 v 5) (named buttonEntries DetailRead.Unknown w) (λ v. rw (p, q))
+        (same-test (detailSound code) (λ v. inRange 1 v 5) (firstMeaning buttonEntries DetailRead.Unknown w) (λ v. rw (p, q))
         (named-passes (passes (λ v. inRange 1 v 5)) buttonEntries DetailRead.Unknown w buttons-test refl))
     go false p false q =
         rw (p, q) (same-test (detailSound code) (atMost smallDetailLimit) (otherDetail code w) (λ v. rw (p, q)) (other-sound code w))

@@ -10,14 +10,14 @@ use Rattle.model.specs.Details.{smallNumber}
 use Rattle.model.specs.declared.events.Directive.{Directive}
 use Rattle.model.specs.declared.names.DetailRead.{DetailRead}
 use Rattle.model.specs.declared.names.TypeName.{TypeName}
-use Rattle.names.specs.Table.{nameAt, detailValues, typeAt, directiveAt}
+use Rattle.names.specs.Table.{nameRow, detailValues, typeRow, directiveRow}
 use Rattle.names.specs.declared.find.Found.{Found}
 use Rattle.names.specs.declared.FirstLine.{FirstLine}
 
 -- the place of the first of n names, from the place i on, that is the word
 unfoldable pub findFrom : ℕ → ℕ → List ℕ → Found
 findFrom zero i w = Found.Nothing
-findFrom (suc n) i w = cond (same w (nameAt i)) (Found.At i) (findFrom n (suc i) w)
+findFrom (suc n) i w = cond (same w (nameRow i)) (Found.At i) (findFrom n (suc i) w)
 
 module _ {A : Type 0} where
   -- what a place stands for, `other` where nothing was found
@@ -27,13 +27,13 @@ module _ {A : Type 0} where
 
 -- what a place of the whole table stands for, in each group that does not start it
 abbrev pub typeMeaning : ℕ → TypeName
-typeMeaning i = TypeName.Known (typeAt (i - 24))
+typeMeaning i = TypeName.Known (typeRow (i - 24))
 
 abbrev pub detailMeaning : ℕ → DetailRead
 detailMeaning i = DetailRead.Value (getD detailValues (i - 111) 0)
 
 abbrev pub directiveMeaning : ℕ → Option Directive
-directiveMeaning i = some (directiveAt (i - 150))
+directiveMeaning i = some (directiveRow (i - 150))
 
 -- a detail's name in a range
 unfoldable pub detailFound : ℕ → ℕ → List ℕ → DetailRead

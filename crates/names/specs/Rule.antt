@@ -5,7 +5,7 @@ use mathlib.Core.List.{List, [], _∷_}
 use Rattle.model.specs.Lists.{bytes}
 use Rattle.model.specs.Names.{Entry, modifierEntries, typeEntries}
 use Rattle.model.specs.Details.{keysymEntries, buttonEntries, motionEntries, modeEntries, requestEntries}
-use Rattle.names.specs.Table.{nameAt, namesIn, meaningsIn, directiveEntries, modifierAt}
+use Rattle.names.specs.Table.{nameRow, namesIn, meaningsIn, directiveEntries, modifierRow}
 use Rattle.names.specs.Find.{typeMeaning, detailMeaning, directiveMeaning}
 
 module _ {A : Type 0} where
@@ -16,11 +16,11 @@ module _ {A : Type 0} where
 
 -- the n places from i on hold the names of these entries, and stand for what these stand for
 pub record Holds {A : Type 0} (mean : ℕ → A) (n i : ℕ) (es : List (Entry A)) : Type 0 where
-  pub names : valuesFrom n nameAt i ≡ namesIn es
+  pub names : valuesFrom n nameRow i ≡ namesIn es
   pub meanings : valuesFrom n mean i ≡ meaningsIn es
 
 pub record TableHolds : Type 0 where
-  pub modifiers : Holds modifierAt 24 0 modifierEntries
+  pub modifiers : Holds modifierRow 24 0 modifierEntries
   pub types : Holds typeMeaning 87 24 typeEntries
   pub keysyms : Holds detailMeaning 25 111 keysymEntries
   pub buttons : Holds detailMeaning 5 136 buttonEntries
@@ -28,5 +28,5 @@ pub record TableHolds : Type 0 where
   pub modes : Holds detailMeaning 4 143 modeEntries
   pub requests : Holds detailMeaning 3 147 requestEntries
   pub directives : Holds directiveMeaning 3 150 directiveEntries
-  pub none : nameAt 153 ≡ bytes "None"
-  pub any : nameAt 154 ≡ bytes "Any"
+  pub none : nameRow 153 ≡ bytes "None"
+  pub any : nameRow 154 ≡ bytes "Any"

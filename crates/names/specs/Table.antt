@@ -51,13 +51,13 @@ allNames =
     ++ (namesIn directiveEntries ++ (bytes "None" ∷ bytes "Any" ∷ []))))))))
 
 -- the name at a place of the table
-unfoldable pub nameAt : ℕ → List ℕ
-nameAt k = getD allNames k []
+unfoldable pub nameRow : ℕ → List ℕ
+nameRow k = getD allNames k []
 
 -- names in one text, a blank after each
-abbrev pub joined : List (List ℕ) → List ℕ
-joined [] = []
-joined (n ∷ ns) = n ++ (32 ∷ joined ns)
+abbrev pub joinedNames : List (List ℕ) → List ℕ
+joinedNames [] = []
+joinedNames (n ∷ ns) = n ++ (32 ∷ joinedNames ns)
 
 -- where each name begins in that text, the first one at `start`
 abbrev pub startsFrom : ℕ → List (List ℕ) → List ℕ
@@ -65,7 +65,7 @@ startsFrom start [] = []
 startsFrom start (n ∷ ns) = start ∷ startsFrom (start + length n + 1) ns
 
 unfoldable pub nameText : List ℕ
-nameText = joined allNames
+nameText = joinedNames allNames
 
 unfoldable pub nameStarts : List ℕ
 nameStarts = startsFrom 0 allNames
@@ -134,8 +134,8 @@ detailValues =
 -- ---- The numbers read back: what a place of the table stands for
 
 -- the modifier at a place
-unfoldable pub modifierAt : ℕ → ModifierName
-modifierAt i =
+unfoldable pub modifierRow : ℕ → ModifierName
+modifierRow i =
     cond (ltb (getD modifierBits i 0) 13) (ModifierName.Bit (getD modifierBits i 0)) ModifierName.NotBuilt
 
 abbrev pub addedOf : ℕ → Added
@@ -146,10 +146,10 @@ abbrev pub fixedOf : ℕ → Detail
 fixedOf n = cond (eqb n 0) Detail.Unspecified (Detail.Value n)
 
 -- the event type at a place among the types
-unfoldable pub typeAt : ℕ → EventType
-typeAt i =
+unfoldable pub typeRow : ℕ → EventType
+typeRow i =
     record { code = getD typeCodes i 0; added = addedOf (getD typeAdded i 0); detail = fixedOf (getD typeDetails i 0) }
 
 -- the directive at a place among the directives
-abbrev pub directiveAt : ℕ → Directive
-directiveAt i = cond (eqb i 0) Directive.Replace (cond (eqb i 1) Directive.Override Directive.Augment)
+abbrev pub directiveRow : ℕ → Directive
+directiveRow i = cond (eqb i 0) Directive.Replace (cond (eqb i 1) Directive.Override Directive.Augment)

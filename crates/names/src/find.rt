@@ -4,7 +4,7 @@ use crate::table;
 ghost use mathlib.Core.Path.{_≡_};
 ghost use Prim.Native.Nat.{_-_, _≤_, _<_};
 ghost use Rattle.model.specs.Lists.{same};
-ghost use Rattle.names.specs.Table.{nameAt, markOf};
+ghost use Rattle.names.specs.Table.{nameRow, markOf};
 ghost use Rattle.names.specs.Find.{findFrom};
 
 // The place of a name in the table.
@@ -16,7 +16,7 @@ pub enum Found {
 // Whether the word is the name at a place. Lengths are compared first.
 pub fn is_name(w: &[u8], place: usize) -> bool
     requires { ⌜ place < 155 ⌝ }
-    ensures { λ r. ⌜ r ≡ same (now (w .entry)) (nameAt place) ⌝ }
+    ensures { λ r. ⌜ r ≡ same (now (w .entry)) (nameRow place) ⌝ }
 {
     let len = table::name_length(place);
     if w.len() != len {
@@ -63,8 +63,8 @@ fn mark_of(w: &[u8]) -> u32
 
 // The same, given the marks of the name and of the word: most names are ruled out by theirs.
 fn is_marked_name(w: &[u8], place: usize, own: u32, mark: u32) -> bool
-    requires { ⌜ (place < 155) × (own ≡ markOf (nameAt place)) × (mark ≡ markOf (now w)) ⌝ }
-    ensures { λ r. ⌜ r ≡ same (now (w .entry)) (nameAt place) ⌝ }
+    requires { ⌜ (place < 155) × (own ≡ markOf (nameRow place)) × (mark ≡ markOf (now w)) ⌝ }
+    ensures { λ r. ⌜ r ≡ same (now (w .entry)) (nameRow place) ⌝ }
 {
     if own != mark {
         return false;

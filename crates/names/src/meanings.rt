@@ -7,12 +7,12 @@ use model::names::EventType;
 use model::names::ModifierName;
 ghost use mathlib.Core.Path.{_≡_};
 ghost use Prim.Native.Nat.{_<_};
-ghost use Rattle.names.specs.Table.{modifierAt, addedOf, fixedOf, typeAt, directiveAt};
+ghost use Rattle.names.specs.Table.{modifierRow, addedOf, fixedOf, typeRow, directiveRow};
 
 // The modifier of a place in the table.
 pub fn modifier_at(i: usize) -> ModifierName
     requires { ⌜ i < 24 ⌝ }
-    ensures { λ r. ⌜ r ≡ modifierAt i ⌝ }
+    ensures { λ r. ⌜ r ≡ modifierRow i ⌝ }
 {
     let bit = table::modifier_bit(i);
     if bit < 13 {
@@ -48,7 +48,7 @@ pub fn fixed_of(n: u8) -> Detail
 // The event type of a place among the types.
 pub fn type_at(i: usize) -> EventType
     requires { ⌜ i < 87 ⌝ }
-    ensures { λ r. ⌜ r ≡ typeAt i ⌝ }
+    ensures { λ r. ⌜ r ≡ typeRow i ⌝ }
 {
     let code = table::type_code(i);
     let added = added_of(table::type_added(i));
@@ -62,7 +62,7 @@ pub fn type_at(i: usize) -> EventType
 
 // The directive of a place among the directives.
 pub fn directive_at(i: usize) -> Directive
-    ensures { λ r. ⌜ r ≡ directiveAt i ⌝ }
+    ensures { λ r. ⌜ r ≡ directiveRow i ⌝ }
 {
     if i == 0 {
         return Directive::Replace;

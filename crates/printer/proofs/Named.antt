@@ -10,39 +10,39 @@ use Rattle.model.specs.Lists.{bytes}
 use Rattle.model.specs.Names.{nameOf, modifierEntries, typeEntries, protocolEntries, synonymEntries, abbreviationEntries}
 use Rattle.model.specs.Details.{keysymEntries, buttonEntries, motionEntries, modeEntries, requestEntries}
 use Rattle.model.specs.Canonical.{bitName, isCodeOf, nameOrDecimal, writingOrder}
-use Rattle.names.specs.Table.{nameAt, allNames}
-use Rattle.printer.specs.Places.{orderAt, modifierPlace, nameOrNumber}
+use Rattle.names.specs.Table.{nameRow, allNames}
+use Rattle.printer.specs.Places.{orderAt, modifierPlace, placeOrNumber}
 use Rattle.printer.proofs.Joined.{run-at}
 
 pub order-run : writingOrder ≡ run orderAt 0 13
 unfolding run orderAt
 order-run = refl
 
-bit-names : run bitName 0 13 ≡ run (λ k. nameAt (modifierPlace k)) 0 13
-unfolding run bitName modifierEntries nameAt allNames modifierPlace
+bit-names : run bitName 0 13 ≡ run (λ k. nameRow (modifierPlace k)) 0 13
+unfolding run bitName modifierEntries nameRow allNames modifierPlace
 bit-names = refl
 
-pub bit-name : (k : ℕ) → k < 13 → bitName k ≡ nameAt (modifierPlace k)
-bit-name k h = rw zero-add at (run-at bitName (λ k. nameAt (modifierPlace k)) 0 13 [] bit-names k h)
+pub bit-name : (k : ℕ) → k < 13 → bitName k ≡ nameRow (modifierPlace k)
+bit-name k h = rw zero-add at (run-at bitName (λ k. nameRow (modifierPlace k)) 0 13 [] bit-names k h)
 
 abbrev typeName : ℕ → List ℕ
 typeName code = nameOf (isCodeOf code) [] protocolEntries
 
-type-names : run typeName 2 33 ≡ run (λ code. nameAt (code + 22)) 2 33
-unfolding run nameAt allNames modifierEntries typeEntries protocolEntries
+type-names : run typeName 2 33 ≡ run (λ code. nameRow (code + 22)) 2 33
+unfolding run nameRow allNames modifierEntries typeEntries protocolEntries
 type-names = refl
 
-pub type-name : (code : ℕ) → 2 ≤ code → code ≤ 34 → nameOf (isCodeOf code) [] protocolEntries ≡ nameAt (code + 22)
+pub type-name : (code : ℕ) → 2 ≤ code → code ≤ 34 → nameOf (isCodeOf code) [] protocolEntries ≡ nameRow (code + 22)
 type-name code h k =
     let e : 2 + (code - 2) ≡ code = omega arith in
-    rw e at (run-at typeName (λ code. nameAt (code + 22)) 2 33 [] type-names (code - 2) (omega arith))
+    rw e at (run-at typeName (λ code. nameRow (code + 22)) 2 33 [] type-names (code - 2) (omega arith))
 
-pub button-motion : nameAt 105 ≡ bytes "BtnMotion"
-unfolding nameAt allNames modifierEntries typeEntries protocolEntries synonymEntries abbreviationEntries
+pub button-motion : nameRow 105 ≡ bytes "BtnMotion"
+unfolding nameRow allNames modifierEntries typeEntries protocolEntries synonymEntries abbreviationEntries
 button-motion = refl
 
-pub button-name : (v : ℕ) → nameOrDecimal buttonEntries v ≡ nameOrNumber v 1 5 136
-unfolding nameAt allNames modifierEntries typeEntries protocolEntries synonymEntries abbreviationEntries keysymEntries buttonEntries motionEntries modeEntries requestEntries nameOrNumber
+pub button-name : (v : ℕ) → nameOrDecimal buttonEntries v ≡ placeOrNumber v 1 5 136
+unfolding nameRow allNames modifierEntries typeEntries protocolEntries synonymEntries abbreviationEntries keysymEntries buttonEntries motionEntries modeEntries requestEntries placeOrNumber
 button-name zero = refl
 button-name (suc zero) = refl
 button-name (suc (suc zero)) = refl
@@ -60,8 +60,8 @@ button-name (suc (suc (suc (suc (suc (suc v)))))) =
       le-leb 6 (suc (suc (suc (suc (suc (suc v)))))) (omega arith),
     )
 
-pub motion-name : (v : ℕ) → nameOrDecimal motionEntries v ≡ nameOrNumber v 0 2 141
-unfolding nameAt allNames modifierEntries typeEntries protocolEntries synonymEntries abbreviationEntries keysymEntries buttonEntries motionEntries modeEntries requestEntries nameOrNumber
+pub motion-name : (v : ℕ) → nameOrDecimal motionEntries v ≡ placeOrNumber v 0 2 141
+unfolding nameRow allNames modifierEntries typeEntries protocolEntries synonymEntries abbreviationEntries keysymEntries buttonEntries motionEntries modeEntries requestEntries placeOrNumber
 motion-name zero = refl
 motion-name (suc zero) = refl
 motion-name (suc (suc v)) =
@@ -72,8 +72,8 @@ motion-name (suc (suc v)) =
       le-leb 2 (suc (suc v)) (omega arith),
     )
 
-pub mode-name : (v : ℕ) → nameOrDecimal modeEntries v ≡ nameOrNumber v 0 4 143
-unfolding nameAt allNames modifierEntries typeEntries protocolEntries synonymEntries abbreviationEntries keysymEntries buttonEntries motionEntries modeEntries requestEntries nameOrNumber
+pub mode-name : (v : ℕ) → nameOrDecimal modeEntries v ≡ placeOrNumber v 0 4 143
+unfolding nameRow allNames modifierEntries typeEntries protocolEntries synonymEntries abbreviationEntries keysymEntries buttonEntries motionEntries modeEntries requestEntries placeOrNumber
 mode-name zero = refl
 mode-name (suc zero) = refl
 mode-name (suc (suc zero)) = refl
@@ -88,8 +88,8 @@ mode-name (suc (suc (suc (suc v)))) =
       le-leb 4 (suc (suc (suc (suc v)))) (omega arith),
     )
 
-pub request-name : (v : ℕ) → nameOrDecimal requestEntries v ≡ nameOrNumber v 0 3 147
-unfolding nameAt allNames modifierEntries typeEntries protocolEntries synonymEntries abbreviationEntries keysymEntries buttonEntries motionEntries modeEntries requestEntries nameOrNumber
+pub request-name : (v : ℕ) → nameOrDecimal requestEntries v ≡ placeOrNumber v 0 3 147
+unfolding nameRow allNames modifierEntries typeEntries protocolEntries synonymEntries abbreviationEntries keysymEntries buttonEntries motionEntries modeEntries requestEntries placeOrNumber
 request-name zero = refl
 request-name (suc zero) = refl
 request-name (suc (suc zero)) = refl

@@ -10,33 +10,34 @@ use borrow.Author.Tests.{lt-ltb, le-ltb}
 use Rattle.words.specs.Runs.{run}
 use Rattle.model.specs.Canonical.{productionsText, canonicalText}
 use Rattle.model.specs.declared.answers.Written.{Written}
-use Rattle.tables.specs.Reading.{decode, productionAt, productionCount, firstLengthIn, secondLengthIn}
+use Rattle.tables.specs.Reading.{decode, productionEntry, productionTotal, firstLengthIn, secondLengthIn}
 use Rattle.tables.specs.Whole.{whole}
 use Rattle.printer.specs.Overlay.{Put}
-use Rattle.printer.specs.Write.{notWhole, textOf, writeNumber, written, writtenBytes}
+use Rattle.printer.specs.Write.{writeNotWhole, textWritten, writeNumber, written, writtenBytes}
 use Rattle.printer.proofs.Laws.{overlay-fits}
+use Rattle.tables.specs.Layout.{tableLength}
 
-pub text-is : (l first second : List ℕ) → productionsText first second (run (productionAt l) 0 (productionCount l)) ≡ textOf l first second
-unfolding textOf canonicalText decode
+pub text-is : (l first second : List ℕ) → productionsText first second (run (productionEntry l) 0 (productionTotal l)) ≡ textWritten l first second
+unfolding textWritten canonicalText decode
 text-is l first second = refl
 
 -- ---- 12
 
 module _ (l first second : List ℕ) where
-  pub table-not-whole : whole l ≡ false → notWhole l first second ≡ true
-  unfolding notWhole
+  pub table-not-whole : whole l ≡ false → writeNotWhole l first second ≡ true
+  unfolding writeNotWhole
   table-not-whole e = rw e
 
-  pub first-short : whole l ≡ true → length first < firstLengthIn l → notWhole l first second ≡ true
-  unfolding notWhole decode
+  pub first-short : whole l ≡ true → length first < firstLengthIn l → writeNotWhole l first second ≡ true
+  unfolding writeNotWhole decode
   first-short e h = rw (e, lt-ltb (length first) (firstLengthIn l) h)
 
-  pub second-short : whole l ≡ true → firstLengthIn l ≤ length first → length second < secondLengthIn l → notWhole l first second ≡ true
-  unfolding notWhole decode
+  pub second-short : whole l ≡ true → firstLengthIn l ≤ length first → length second < secondLengthIn l → writeNotWhole l first second ≡ true
+  unfolding writeNotWhole decode
   second-short e h k = rw (e, le-ltb (length first) (firstLengthIn l) h, lt-ltb (length second) (secondLengthIn l) k)
 
-  pub both-long : whole l ≡ true → firstLengthIn l ≤ length first → secondLengthIn l ≤ length second → notWhole l first second ≡ false
-  unfolding notWhole decode
+  pub both-long : whole l ≡ true → firstLengthIn l ≤ length first → secondLengthIn l ≤ length second → writeNotWhole l first second ≡ false
+  unfolding writeNotWhole decode
   both-long e h k = rw (e, le-ltb (length first) (firstLengthIn l) h, le-ltb (length second) (secondLengthIn l) k)
 
 -- ---- Answers
@@ -54,33 +55,33 @@ module _ (l first second out : List ℕ) where
   unfolding written writtenBytes
   twelve e = record { answer = rw e; bytes = rw e }
 
-  none : writeNumber l first second out ≡ 0 → Outcome l first second out (Written.Accepted (length (textOf l first second))) (textOf l first second ++ drop (length (textOf l first second)) out)
+  none : writeNumber l first second out ≡ 0 → Outcome l first second out (Written.Accepted (length (textWritten l first second))) (textWritten l first second ++ drop (length (textWritten l first second)) out)
   unfolding written writtenBytes
   none e = record { answer = rw e; bytes = rw e }
 
-  pub short-table : length l < 5904 → Outcome l first second out (Written.Refused 1) out
+  pub short-table : length l < tableLength → Outcome l first second out (Written.Refused 1) out
   unfolding writeNumber
-  short-table h = one (rw (lt-ltb (length l) 5904 h))
+  short-table h = one (rw (lt-ltb (length l) tableLength h))
 
-  pub not-whole : 5904 ≤ length l → notWhole l first second ≡ true → Outcome l first second out (Written.Refused 12) out
+  pub not-whole : tableLength ≤ length l → writeNotWhole l first second ≡ true → Outcome l first second out (Written.Refused 12) out
   unfolding writeNumber
-  not-whole h e = twelve (rw (le-ltb (length l) 5904 h, e))
+  not-whole h e = twelve (rw (le-ltb (length l) tableLength h, e))
 
-  pub short-output : 5904 ≤ length l → notWhole l first second ≡ false → length out < length (textOf l first second) → Outcome l first second out (Written.Refused 1) out
+  pub short-output : tableLength ≤ length l → writeNotWhole l first second ≡ false → length out < length (textWritten l first second) → Outcome l first second out (Written.Refused 1) out
   unfolding writeNumber
-  short-output h e k = one (rw (le-ltb (length l) 5904 h, e, lt-ltb (length out) (length (textOf l first second)) k))
+  short-output h e k = one (rw (le-ltb (length l) tableLength h, e, lt-ltb (length out) (length (textWritten l first second)) k))
 
-  accepted-number : 5904 ≤ length l → notWhole l first second ≡ false → length (textOf l first second) ≤ length out → writeNumber l first second out ≡ 0
+  accepted-number : tableLength ≤ length l → writeNotWhole l first second ≡ false → length (textWritten l first second) ≤ length out → writeNumber l first second out ≡ 0
   unfolding writeNumber
-  accepted-number h e k = rw (le-ltb (length l) 5904 h, e, le-ltb (length out) (length (textOf l first second)) k)
+  accepted-number h e k = rw (le-ltb (length l) tableLength h, e, le-ltb (length out) (length (textWritten l first second)) k)
 
-  pub accepted : (n next : ℕ) (after : List ℕ) → 5904 ≤ length l → notWhole l first second ≡ false → n ≡ length (textOf l first second) → n ≤ length out
-      → Put out after 0 next (productionsText first second (run (productionAt l) 0 (productionCount l)))
+  pub accepted : (n next : ℕ) (after : List ℕ) → tableLength ≤ length l → writeNotWhole l first second ≡ false → n ≡ length (textWritten l first second) → n ≤ length out
+      → Put out after 0 next (productionsText first second (run (productionEntry l) 0 (productionTotal l)))
       → Outcome l first second out (Written.Accepted n) after
   accepted n next after h e f k p =
-      let fit : length (textOf l first second) ≤ length out = omega arith in
+      let fit : length (textWritten l first second) ≤ length out = omega arith in
       let o = none (accepted-number h e fit) in
       record {
         answer = ap Written.Accepted f ∙ o .answer;
-        bytes = p .bytes ∙ rw (text-is l first second) (overlay-fits out (textOf l first second) fit) ∙ o .bytes;
+        bytes = p .bytes ∙ rw (text-is l first second) (overlay-fits out (textWritten l first second) fit) ∙ o .bytes;
       }

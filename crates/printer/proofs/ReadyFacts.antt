@@ -6,9 +6,9 @@ use mathlib.Core.List.{List}
 use mathlib.Core.Bool.{Bool, true, false, cond}
 use lib.ListN.{length}
 use Rattle.model.specs.declared.scan.Span.{Span}
-use Rattle.tables.specs.Reading.{firstLengthIn, secondLengthIn, callCount, callParameters, parametersFrom, parameterAt, markAt, nameAt}
+use Rattle.tables.specs.Reading.{firstLengthIn, secondLengthIn, callTotal, callParameters, firstParameter, parameterEntry, markEntry, nameEntry}
 use Rattle.tables.proofs.WholeFacts.{WholeFacts, facts-of-whole}
-use Rattle.printer.specs.Ready.{Ready}
+use Rattle.printer.specs.Ready.{WriteReady}
 
 -- a part of the text that a mark names, of at most 8,192 bytes
 pub record Within (mark : Bool) (s : Span) (first second : List ℕ) : Type 0 where
@@ -20,21 +20,21 @@ within-of : (mark : Bool) (s : Span) (first second : List ℕ) (a b : ℕ) → s
 within-of true s first second a b h p q x y = record { ends = omega arith; short = omega arith }
 within-of false s first second a b h p q x y = record { ends = omega arith; short = omega arith }
 
-module _ (l first second : List ℕ) (r : Ready l first second) where
+module _ (l first second : List ℕ) (r : WriteReady l first second) where
   pub ready-facts : WholeFacts l
   ready-facts = facts-of-whole l (r .isWhole)
 
-  within-at : (i : ℕ) (s : Span) → s .start + s .len ≤ cond (markAt l i) (secondLengthIn l) (firstLengthIn l) → Within (markAt l i) s first second
+  within-at : (i : ℕ) (s : Span) → s .start + s .len ≤ cond (markEntry l i) (secondLengthIn l) (firstLengthIn l) → Within (markEntry l i) s first second
   within-at i s h =
-      within-of (markAt l i) s first second (firstLengthIn l) (secondLengthIn l) h (r .firstLong) (r .secondLong) (ready-facts .first) (ready-facts .second)
+      within-of (markEntry l i) s first second (firstLengthIn l) (secondLengthIn l) h (r .firstLong) (r .secondLong) (ready-facts .first) (ready-facts .second)
 
-  pub name-within : (i : ℕ) (mark : Bool) (s : Span) → i < callCount l → mark ≡ markAt l i → s ≡ nameAt l i → Within mark s first second
+  pub name-within : (i : ℕ) (mark : Bool) (s : Span) → i < callTotal l → mark ≡ markEntry l i → s ≡ nameEntry l i → Within mark s first second
   name-within i mark s h e f =
       rw e (within-at i s (rw (ap (λ (x : Span). x .start + x .len) f) (ready-facts .nameWithin i h)))
 
-  pub parameter-within : (i k n from : ℕ) (mark : Bool) (s : Span) → i < callCount l → k < n → n ≡ callParameters l i
-      → from ≡ parametersFrom l i → mark ≡ markAt l i → s ≡ parameterAt l (from + k) → Within mark s first second
+  pub parameter-within : (i k n from : ℕ) (mark : Bool) (s : Span) → i < callTotal l → k < n → n ≡ callParameters l i
+      → from ≡ firstParameter l i → mark ≡ markEntry l i → s ≡ parameterEntry l (from + k) → Within mark s first second
   parameter-within i k n from mark s h q en ef em es =
-      let e : s ≡ parameterAt l (parametersFrom l i + k) = es ∙ ap (λ (j : ℕ). parameterAt l (j + k)) ef in
+      let e : s ≡ parameterEntry l (firstParameter l i + k) = es ∙ ap (λ (j : ℕ). parameterEntry l (j + k)) ef in
       let b : k < callParameters l i = omega arith in
       rw em (within-at i s (rw (ap (λ (x : Span). x .start + x .len) e) (ready-facts .parameterWithin i k h b)))

@@ -6,7 +6,7 @@ use mathlib.Core.List.{List, [], _∷_, _++_, append-assoc}
 use borrow.Author.Tests.{le-leb, lt-leb, eq-eqb, ne-eqb}
 use Rattle.model.specs.Lists.{bytes}
 use Rattle.model.specs.Canonical.{valueText, hexadecimal}
-use Rattle.printer.specs.Places.{nameOrNumber}
+use Rattle.printer.specs.Places.{placeOrNumber}
 use Rattle.printer.proofs.Named.{button-name, motion-name, mode-name, request-name}
 
 module _ (code v : ℕ) where
@@ -14,18 +14,18 @@ module _ (code v : ℕ) where
   unfolding valueText
   value-key h k = rw (le-leb 2 code h, le-leb code 3 k)
 
-  pub value-button : 3 < code → code ≤ 5 → nameOrNumber v 1 5 136 ≡ valueText code v
+  pub value-button : 3 < code → code ≤ 5 → placeOrNumber v 1 5 136 ≡ valueText code v
   unfolding valueText
   value-button h k =
       let l : 2 ≤ code = omega arith in
       let m : 4 ≤ code = omega arith in
       rw (le-leb 2 code l, lt-leb code 3 h, le-leb 4 code m, le-leb code 5 k, button-name v)
 
-  pub value-motion : code ≡ 6 → nameOrNumber v 0 2 141 ≡ valueText code v
+  pub value-motion : code ≡ 6 → placeOrNumber v 0 2 141 ≡ valueText code v
   unfolding valueText
   value-motion e = rw (e, motion-name v)
 
-  pub value-mode : 5 < code → (code ≡ 6 → ⊥) → code ≤ 10 → nameOrNumber v 0 4 143 ≡ valueText code v
+  pub value-mode : 5 < code → (code ≡ 6 → ⊥) → code ≤ 10 → placeOrNumber v 0 4 143 ≡ valueText code v
   unfolding valueText
   value-mode h n k =
       let l : 2 ≤ code = omega arith in
@@ -34,7 +34,7 @@ module _ (code v : ℕ) where
       let p : 7 ≤ code = omega arith in
       rw (le-leb 2 code l, lt-leb code 3 o, le-leb 4 code m, lt-leb code 5 h, ne-eqb code 6 n, le-leb 7 code p, le-leb code 10 k, mode-name v)
 
-  pub value-request : 10 < code → nameOrNumber v 0 3 147 ≡ valueText code v
+  pub value-request : 10 < code → placeOrNumber v 0 3 147 ≡ valueText code v
   unfolding valueText
   value-request h =
       let l : 2 ≤ code = omega arith in

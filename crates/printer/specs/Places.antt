@@ -1,11 +1,11 @@
 -- Where the names that are written stand in the table of names, and the order of modifiers.
-use Prim.Native.Nat.{ℕ, _+_, _-_, _*_, _≤_}
+use Prim.Native.Nat.{ℕ, _+_, _-_, _*_}
 use mathlib.Core.Bool.{Bool, cond, _&&_, _||_}
 use mathlib.Core.List.{List}
 use lib.Dec.{eqb, ltb, leb}
 use Rattle.model.specs.Modifiers.{bit}
 use Rattle.model.specs.Canonical.{decimal}
-use Rattle.names.specs.Table.{nameAt}
+use Rattle.names.specs.Table.{nameRow}
 
 -- the j-th bit in the order of writing
 unfoldable pub orderAt : ℕ → ℕ
@@ -20,6 +20,6 @@ unfoldable pub isAsked : (set clear : ℕ) → Bool → ℕ → Bool
 isAsked set clear colon k = (colon && ltb k 2) || (bit k set || bit k clear)
 
 -- a value from `low` on by its name, the first of `count` at a place; any other in decimal
-unfoldable pub nameOrNumber : (v low count place : ℕ) → List ℕ
-nameOrNumber v low count place =
-    cond (ltb v low) (decimal v) (cond (leb (low + count) v) (decimal v) (nameAt (place + (v - low))))
+unfoldable pub placeOrNumber : (v low count place : ℕ) → List ℕ
+placeOrNumber v low count place =
+    cond (ltb v low) (decimal v) (cond (leb (low + count) v) (decimal v) (nameRow (place + (v - low))))

@@ -8,7 +8,7 @@ use Rattle.tables.specs.Reading.{firstLengthIn, secondLengthIn}
 use Rattle.tables.specs.Whole.{whole}
 
 -- the table is whole, and the lent texts are as long as the lengths that it keeps
-pub record Ready (l first second : List ℕ) : Type 0 where
+pub record WriteReady (l first second : List ℕ) : Type 0 where
   pub isWhole : whole l ≡ true
   pub firstLong : firstLengthIn l ≤ length first
   pub secondLong : secondLengthIn l ≤ length second

@@ -14,23 +14,23 @@ use Rattle.tables.specs.Whole.{whole}
 
 module _ (l first second : List ℕ) where
   -- "a lent text shorter than that is 12"
-  unfoldable pub notWhole : Bool
-  notWhole =
+  unfoldable pub writeNotWhole : Bool
+  writeNotWhole =
       not (whole l)
       || ltb (length first) (decode l .firstLength)
       || ltb (length second) (decode l .secondLength)
 
-  unfoldable pub textOf : List ℕ
-  textOf = canonicalText first second (decode l)
+  unfoldable pub textWritten : List ℕ
+  textWritten = canonicalText first second (decode l)
 
   module _ (out : List ℕ) where
     -- the number of the first check that applies, 0 where none does
     unfoldable pub writeNumber : ℕ
-    writeNumber = writeOrder (ltb (length l) tableLength) notWhole (ltb (length out) (length textOf))
+    writeNumber = writeOrder (ltb (length l) tableLength) writeNotWhole (ltb (length out) (length textWritten))
 
     unfoldable pub written : Written
-    written = cond (eqb writeNumber 0) (Written.Accepted (length textOf)) (Written.Refused writeNumber)
+    written = cond (eqb writeNumber 0) (Written.Accepted (length textWritten)) (Written.Refused writeNumber)
 
     -- "A refused write changes no byte"; bytes past the text are never touched
     unfoldable pub writtenBytes : List ℕ
-    writtenBytes = cond (eqb writeNumber 0) (textOf ++ drop (length textOf) out) out
+    writtenBytes = cond (eqb writeNumber 0) (textWritten ++ drop (length textWritten) out) out

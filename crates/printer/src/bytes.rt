@@ -1,10 +1,9 @@
 // Texts put into lent bytes. Each function writes its text at a position as far as it lies within the bytes, and returns the
 // position past it: on few bytes it measures the text, on enough it writes it.
-ghost use mathlib.Core.Path.{_≡_};
 ghost use mathlib.Core.List.{[], _∷_};
 ghost use Prim.Native.Nat.{_+_, _≤_, _<_};
 ghost use lib.ListN.{length, take, drop};
-ghost use Rattle.names.specs.Table.{nameAt};
+ghost use Rattle.names.specs.Table.{nameRow};
 ghost use Rattle.printer.specs.Overlay.{Put, separator};
 
 // The one store.
@@ -47,7 +46,7 @@ pub fn put_part(out: &mut [u8], at: usize, text: &[u8], start: usize, len: usize
 // The name at a place of the table of names.
 pub fn put_name(out: &mut [u8], at: usize, place: usize) -> usize
     requires { ⌜ (at ≤ 9000000000) × (place < 155) ⌝ }
-    ensures { λ r. ⌜ (Put (now (out .entry)) (now (out .exit)) at r (nameAt place)) × (r ≤ at + 1237) ⌝ }
+    ensures { λ r. ⌜ (Put (now (out .entry)) (now (out .exit)) at r (nameRow place)) × (r ≤ at + 1237) ⌝ }
 {
     let start = names::table::name_start(place);
     let len = names::table::name_length(place);

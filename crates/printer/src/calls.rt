@@ -1,22 +1,21 @@
 // Calls as they are written, their names and parameters copied from the text that each came from.
 use crate::bytes;
 use model::scan::Span;
-ghost use mathlib.Core.Path.{_≡_};
 ghost use mathlib.Core.Bool.{cond};
 ghost use Prim.Native.Nat.{_+_, _≤_, _<_};
 ghost use lib.ListN.{length};
 ghost use Rattle.words.specs.Runs.{run};
 ghost use Rattle.model.specs.Lists.{bytes};
-ghost use Rattle.model.specs.Asking.{bytesOf};
+ghost use Rattle.model.specs.Asking.{partBytes};
 ghost use Rattle.model.specs.Canonical.{joinedBy, each, parameterText, callText};
-ghost use Rattle.tables.specs.Reading.{callCount, callAt, markAt, parameterAt, parametersFrom, callParameters};
+ghost use Rattle.tables.specs.Reading.{callTotal, callEntry, markEntry, parameterEntry, firstParameter, callParameters};
 ghost use Rattle.printer.specs.Overlay.{Put};
-ghost use Rattle.printer.specs.Ready.{Ready};
+ghost use Rattle.printer.specs.Ready.{WriteReady};
 
 // A part of the second text where the mark is set, of the first otherwise.
 fn put_span(out: &mut [u8], at: usize, first: &[u8], second: &[u8], mark: bool, s: Span) -> usize
     requires { ⌜ (at ≤ 8900000000) × (s .start + s .len ≤ cond mark (length (now second)) (length (now first))) × (s .len ≤ 8192) ⌝ }
-    ensures { λ r. ⌜ (Put (now (out .entry)) (now (out .exit)) at r (bytesOf (now (first .entry)) (now (second .entry)) mark s)) × (r ≤ at + 8192) ⌝ }
+    ensures { λ r. ⌜ (Put (now (out .entry)) (now (out .exit)) at r (partBytes (now (first .entry)) (now (second .entry)) mark s)) × (r ≤ at + 8192) ⌝ }
 {
     let start = s.start;
     let len = s.len;
@@ -52,8 +51,8 @@ fn put_parameters(
     second: &[u8],
     i: usize,
 ) -> usize
-    requires { ⌜ (at ≤ 7000000000) × Ready (now l) (now first) (now second) × (i < callCount (now l)) ⌝ }
-    ensures { λ r. ⌜ (Put (now (out .entry)) (now (out .exit)) at r (joinedBy (bytes ",") (each (parameterText (now (first .entry)) (now (second .entry)) (markAt (now (l .entry)) i)) (run (parameterAt (now (l .entry))) (parametersFrom (now (l .entry)) i) (callParameters (now (l .entry)) i))))) × (r ≤ at + 65560) ⌝ }
+    requires { ⌜ (at ≤ 7000000000) × WriteReady (now l) (now first) (now second) × (i < callTotal (now l)) ⌝ }
+    ensures { λ r. ⌜ (Put (now (out .entry)) (now (out .exit)) at r (joinedBy (bytes ",") (each (parameterText (now (first .entry)) (now (second .entry)) (markEntry (now (l .entry)) i)) (run (parameterEntry (now (l .entry))) (firstParameter (now (l .entry)) i) (callParameters (now (l .entry)) i))))) × (r ≤ at + 65560) ⌝ }
 {
     let mark = tables::read::call_mark(l, i);
     let from = tables::read::parameters_from(l, i);
@@ -70,8 +69,8 @@ fn put_parameters(
 }
 
 fn put_call(out: &mut [u8], at: usize, l: &[u8], first: &[u8], second: &[u8], i: usize) -> usize
-    requires { ⌜ (at ≤ 6000000000) × Ready (now l) (now first) (now second) × (i < callCount (now l)) ⌝ }
-    ensures { λ r. ⌜ (Put (now (out .entry)) (now (out .exit)) at r (callText (now (first .entry)) (now (second .entry)) (callAt (now (l .entry)) i))) × (r ≤ at + 74000) ⌝ }
+    requires { ⌜ (at ≤ 6000000000) × WriteReady (now l) (now first) (now second) × (i < callTotal (now l)) ⌝ }
+    ensures { λ r. ⌜ (Put (now (out .entry)) (now (out .exit)) at r (callText (now (first .entry)) (now (second .entry)) (callEntry (now (l .entry)) i))) × (r ≤ at + 74000) ⌝ }
 {
     let mark = tables::read::call_mark(l, i);
     let name = tables::read::call_name(l, i);
@@ -91,8 +90,8 @@ pub fn put_calls(
     from: usize,
     n: usize,
 ) -> usize
-    requires { ⌜ (at ≤ 5000000000) × Ready (now l) (now first) (now second) × (from + n ≤ callCount (now l)) × (n ≤ 8) ⌝ }
-    ensures { λ r. ⌜ (Put (now (out .entry)) (now (out .exit)) at r (joinedBy (bytes " ") (each (callText (now (first .entry)) (now (second .entry))) (run (callAt (now (l .entry))) from n)))) × (r ≤ at + 600000) ⌝ }
+    requires { ⌜ (at ≤ 5000000000) × WriteReady (now l) (now first) (now second) × (from + n ≤ callTotal (now l)) × (n ≤ 8) ⌝ }
+    ensures { λ r. ⌜ (Put (now (out .entry)) (now (out .exit)) at r (joinedBy (bytes " ") (each (callText (now (first .entry)) (now (second .entry))) (run (callEntry (now (l .entry))) from n)))) × (r ≤ at + 600000) ⌝ }
 {
     let mut next = at;
     let mut k: usize = 0;

@@ -6,13 +6,13 @@ use model::events::Detail;
 use model::events::KeptEvent;
 ghost use mathlib.Core.Path.{_≡_};
 ghost use mathlib.Core.Bool.{true};
-ghost use mathlib.Core.List.{List, _++_};
-ghost use Prim.Native.Nat.{ℕ, _+_, _≤_, _<_};
+ghost use mathlib.Core.List.{_++_};
+ghost use Prim.Native.Nat.{_+_, _≤_, _<_};
 ghost use Rattle.model.specs.Lists.{bytes};
 ghost use Rattle.model.specs.Canonical.{typeText, valueText, detailText, countText, eventText};
 ghost use Rattle.tables.specs.Fitting.{eventInRange};
 ghost use Rattle.printer.specs.Overlay.{Put};
-ghost use Rattle.printer.specs.Places.{nameOrNumber};
+ghost use Rattle.printer.specs.Places.{placeOrNumber};
 
 // The place of `BtnMotion` in the table of names, and of the type of a code: the protocol's names stand in the order of codes.
 fn put_type(out: &mut [u8], at: usize, e: KeptEvent) -> usize
@@ -42,7 +42,7 @@ fn put_count(out: &mut [u8], at: usize, n: u8) -> usize
 // A value from `low` on by its name, the first of `count` at a place of the table of names; any other in decimal.
 fn put_named(out: &mut [u8], at: usize, v: u32, low: u32, count: u32, place: usize) -> usize
     requires { ⌜ (at ≤ 8900000000) × (place + count ≤ 155) × (low + count ≤ 8) ⌝ }
-    ensures { λ r. ⌜ (Put (now (out .entry)) (now (out .exit)) at r (nameOrNumber v low count place)) × (r ≤ at + 1237) ⌝ }
+    ensures { λ r. ⌜ (Put (now (out .entry)) (now (out .exit)) at r (placeOrNumber v low count place)) × (r ≤ at + 1237) ⌝ }
 {
     if v < low {
         return numbers::put_decimal(out, at, v);

@@ -11,13 +11,13 @@ ghost use mathlib.Core.Path.{_≡_};
 ghost use Prim.Native.Nat.{_≤_};
 ghost use lib.ListN.{length};
 ghost use Rattle.model.specs.Numbers.{writtenLength};
-ghost use Rattle.printer.specs.Ready.{Ready};
-ghost use Rattle.printer.specs.Write.{textOf, written, writtenBytes};
+ghost use Rattle.printer.specs.Ready.{WriteReady};
+ghost use Rattle.printer.specs.Write.{textWritten, written, writtenBytes};
 
 // The length of the text: what writing it into one byte returns.
 fn text_length(table: &[u8], first: &[u8], second: &[u8]) -> usize
-    requires { ⌜ Ready (now table) (now first) (now second) ⌝ }
-    ensures { λ r. ⌜ (r ≡ length (textOf (now (table .entry)) (now (first .entry)) (now (second .entry)))) × (r ≤ 377600000) ⌝ }
+    requires { ⌜ WriteReady (now table) (now first) (now second) ⌝ }
+    ensures { λ r. ⌜ (r ≡ length (textWritten (now (table .entry)) (now (first .entry)) (now (second .entry)))) × (r ≤ 377600000) ⌝ }
 {
     let mut none = [0u8; 1];
     productions::put_productions(&mut none, table, first, second)
@@ -30,7 +30,7 @@ pub fn write(table: &[u8], first: &[u8], second: &[u8], out: &mut [u8]) -> Writt
     ensures { λ r. ⌜ now (out .exit) ≡ writtenBytes (now (table .entry)) (now (first .entry)) (now (second .entry)) (now (out .entry)) ⌝ }
     ensures { λ r. ⌜ writtenLength r ≤ 377600000 ⌝ }
 {
-    if table.len() < 5904 {
+    if table.len() < tables::TABLE_LENGTH {
         return Written::Refused(1);
     }
     if !tables::check::whole(table) {

@@ -2,9 +2,9 @@
 use crate::bytes;
 use model::events::KeptEvent;
 ghost use mathlib.Core.Path.{_≡_};
-ghost use mathlib.Core.Bool.{Bool, cond};
-ghost use mathlib.Core.List.{List, [], _∷_, _++_};
-ghost use Prim.Native.Nat.{ℕ, _+_, _≤_, _<_};
+ghost use mathlib.Core.Bool.{cond};
+ghost use mathlib.Core.List.{[], _∷_, _++_};
+ghost use Prim.Native.Nat.{_+_, _≤_, _<_};
 ghost use Rattle.model.specs.Canonical.{writesBang, bitText, isWrittenBit, bitsText, modifiersText};
 ghost use Rattle.printer.specs.Overlay.{Put, separator};
 ghost use Rattle.printer.specs.Places.{orderAt, modifierPlace, isAsked};

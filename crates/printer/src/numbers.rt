@@ -1,7 +1,7 @@
 // Numbers in a base, with no leading zero.
 use crate::bytes;
 ghost use mathlib.Core.Path.{_≡_};
-ghost use Prim.Native.Nat.{ℕ, _+_, _≤_, _<_};
+ghost use Prim.Native.Nat.{_+_, _≤_, _<_};
 ghost use Rattle.model.specs.Canonical.{digit, digitsIn, hexadecimal, decimal};
 ghost use Rattle.printer.specs.Overlay.{Put};
 

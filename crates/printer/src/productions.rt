@@ -9,14 +9,14 @@ ghost use Rattle.words.specs.Runs.{run};
 ghost use Rattle.model.specs.Lists.{bytes};
 ghost use Rattle.model.specs.Canonical.{joinedBy, each, eventText, productionText, productionsText};
 ghost use Rattle.tables.specs.Whole.{whole};
-ghost use Rattle.tables.specs.Reading.{eventCount, eventAt, productionCount, productionAt};
+ghost use Rattle.tables.specs.Reading.{eventTotal, eventEntry, productionTotal, productionEntry};
 ghost use Rattle.printer.specs.Overlay.{Put};
-ghost use Rattle.printer.specs.Ready.{Ready};
+ghost use Rattle.printer.specs.Ready.{WriteReady};
 
 // n events, from event `from` on.
 fn put_events(out: &mut [u8], at: usize, l: &[u8], from: usize, n: usize) -> usize
-    requires { ⌜ (at ≤ 5000000000) × (whole (now l) ≡ true) × (from + n ≤ eventCount (now l)) ⌝ }
-    ensures { λ r. ⌜ (Put (now (out .entry)) (now (out .exit)) at r (joinedBy (bytes ",") (each eventText (run (eventAt (now (l .entry))) from n)))) × (r ≤ at + 5200000) ⌝ }
+    requires { ⌜ (at ≤ 5000000000) × (whole (now l) ≡ true) × (from + n ≤ eventTotal (now l)) ⌝ }
+    ensures { λ r. ⌜ (Put (now (out .entry)) (now (out .exit)) at r (joinedBy (bytes ",") (each eventText (run (eventEntry (now (l .entry))) from n)))) × (r ≤ at + 5200000) ⌝ }
 {
     let mut next = at;
     let mut k: usize = 0;
@@ -37,8 +37,8 @@ fn put_production(
     second: &[u8],
     p: usize,
 ) -> usize
-    requires { ⌜ (at ≤ 4000000000) × Ready (now l) (now first) (now second) × (p < productionCount (now l)) ⌝ }
-    ensures { λ r. ⌜ (Put (now (out .entry)) (now (out .exit)) at r (productionText (now (first .entry)) (now (second .entry)) (productionAt (now (l .entry)) p))) × (r ≤ at + 5900000) ⌝ }
+    requires { ⌜ (at ≤ 4000000000) × WriteReady (now l) (now first) (now second) × (p < productionTotal (now l)) ⌝ }
+    ensures { λ r. ⌜ (Put (now (out .entry)) (now (out .exit)) at r (productionText (now (first .entry)) (now (second .entry)) (productionEntry (now (l .entry)) p))) × (r ≤ at + 5900000) ⌝ }
 {
     let first_event = tables::read::events_from(l, p);
     let event_count = tables::read::production_events(l, p);
@@ -52,8 +52,8 @@ fn put_production(
 
 // All productions, from the start of the output on.
 pub fn put_productions(out: &mut [u8], l: &[u8], first: &[u8], second: &[u8]) -> usize
-    requires { ⌜ Ready (now l) (now first) (now second) ⌝ }
-    ensures { λ r. ⌜ (Put (now (out .entry)) (now (out .exit)) 0 r (productionsText (now (first .entry)) (now (second .entry)) (run (productionAt (now (l .entry))) 0 (productionCount (now (l .entry)))))) × (r ≤ 377600000) ⌝ }
+    requires { ⌜ WriteReady (now l) (now first) (now second) ⌝ }
+    ensures { λ r. ⌜ (Put (now (out .entry)) (now (out .exit)) 0 r (productionsText (now (first .entry)) (now (second .entry)) (run (productionEntry (now (l .entry))) 0 (productionTotal (now (l .entry)))))) × (r ≤ 377600000) ⌝ }
 {
     let n = tables::read::production_count(l);
     let mut next: usize = 0;

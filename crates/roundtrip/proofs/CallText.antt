@@ -13,7 +13,7 @@ use Rattle.model.specs.Canonical.{joinedBy, each}
 use Rattle.model.specs.declared.scan.Span.{Span}
 use Rattle.modifiers.proofs.Below.{both-left, both-right}
 use Rattle.grammar.specs.Bytes.{allowedByte, blank, namechar, quotedByte}
-use Rattle.grammar.specs.Tokens.{begins, Stands, isSome}
+use Rattle.grammar.specs.Tokens.{beginsWith, Stands, isSome}
 use Rattle.grammar.specs.Calls as Grammar
 use Rattle.grammar.proofs.Places.{kind-not}
 use Rattle.roundtrip.specs.Contents.{CallBytes}
@@ -135,11 +135,11 @@ module _ (line : List ℕ) where
     pub derived : Grammar.Bracketed line l spans r
     pub held : ParametersHeld line spans ws
 
-  no-bracket : (w : List ℕ) (ws : List (List ℕ)) (r : List ℕ) → begins (λ b. isCode b ")") (parametersBytes (w ∷ ws) ++ r) ≡ false
+  no-bracket : (w : List ℕ) (ws : List (List ℕ)) (r : List ℕ) → beginsWith (λ b. isCode b ")") (parametersBytes (w ∷ ws) ++ r) ≡ false
   no-bracket w [] r = rw (parameters-one w r)
   no-bracket w (v ∷ ws) r = rw (parameters-more w v ws r)
 
-  no-blank : (w : List ℕ) (ws : List (List ℕ)) (r : List ℕ) → begins blank (parametersBytes (w ∷ ws) ++ r) ≡ false
+  no-blank : (w : List ℕ) (ws : List (List ℕ)) (r : List ℕ) → beginsWith blank (parametersBytes (w ∷ ws) ++ r) ≡ false
   no-blank w [] r = rw (parameters-one w r)
   no-blank w (v ∷ ws) r = rw (parameters-more w v ws r)
 
@@ -165,7 +165,7 @@ module _ (line : List ℕ) where
     pub derived : Grammar.Rhs line l calls
     pub held : CallsHeld line calls xs
 
-  name-begins : (w r : List ℕ) → all namechar w ≡ true → isSome w ≡ true → begins blank (w ++ r) ≡ false
+  name-begins : (w r : List ℕ) → all namechar w ≡ true → isSome w ≡ true → beginsWith blank (w ++ r) ≡ false
   name-begins [] r p s = absurd (false≢true s)
   name-begins (c ∷ w) r p s = namechar-blank c (both-left (namechar c) (all namechar w) p)
 

@@ -6,7 +6,7 @@ use mathlib.Core.Bool.{Bool}
 use mathlib.Core.List.{List, [], _∷_, _++_, map, append-assoc}
 use lib.Seq.{append-snoc}
 use Rattle.model.specs.Lists.{bytes}
-use Rattle.model.specs.Asking.{bytesOf}
+use Rattle.model.specs.Asking.{partBytes}
 use Rattle.model.specs.Tables.{Call, Production, Table}
 use Rattle.model.specs.Canonical as Model
 use Rattle.model.specs.declared.scan.Span.{Span}
@@ -17,17 +17,17 @@ use Rattle.roundtrip.proofs.WholeText.{textOf}
 
 module _ (first second : List ℕ) where
   parameters-same : (mark : Bool) (ss : List Span)
-      → Model.each (Model.parameterText first second mark) ss ≡ Model.each parameterBytes (map (bytesOf first second mark) ss)
+      → Model.each (Model.parameterText first second mark) ss ≡ Model.each parameterBytes (map (partBytes first second mark) ss)
   unfolding Model.parameterText
   parameters-same mark [] = refl
   parameters-same mark (s ∷ ss) =
-      ap {B = List (List ℕ)} (λ x. parameterBytes (bytesOf first second mark s) ∷ x) (parameters-same mark ss)
+      ap {B = List (List ℕ)} (λ x. parameterBytes (partBytes first second mark s) ∷ x) (parameters-same mark ss)
 
   call-same : (c : Call) → Model.callText first second c ≡ callText (callBytes first second c)
   unfolding Model.callText
   call-same c =
       ap {B = List ℕ}
-      (λ x. bytesOf first second (c .second) (c .name) ++ (code "(" ∷ (Model.joinedBy (bytes ",") x ++ (code ")" ∷ []))))
+      (λ x. partBytes first second (c .second) (c .name) ++ (code "(" ∷ (Model.joinedBy (bytes ",") x ++ (code ")" ∷ []))))
       (parameters-same (c .second) (c .parameters))
 
   calls-same : (cs : List Call) → Model.each (Model.callText first second) cs ≡ Model.each callText (map (callBytes first second) cs)

@@ -14,7 +14,7 @@ use Rattle.model.specs.Canonical.{joinedBy, each, writingOrder, bitName, bitTex
 use Rattle.model.specs.declared.events.Detail.{Detail}
 use Rattle.model.specs.declared.events.KeptEvent.{KeptEvent}
 use Rattle.modifiers.proofs.Below.{both-left, both-right}
-use Rattle.grammar.specs.Bytes.{allowedByte, letter, digit, letterOrDigit, namechar, quotedByte, lineByte}
+use Rattle.grammar.specs.Bytes.{allowedByte, letter, isDigitSign, letterOrDigit, namechar, quotedByte, lineByte}
 use Rattle.grammar.proofs.Places.{nor-right}
 use Rattle.roundtrip.specs.Contents.{CallBytes, Content}
 use Rattle.roundtrip.proofs.Lists.{either, choose, all-append, all-mono}
@@ -45,11 +45,11 @@ ranged low high b l h e =
 
 namechar-clean : (b : ℕ) → namechar b ≡ true → clean b ≡ true
 namechar-clean b e =
-    either (letter b || digit b || isCode b "_") (isCode b "-") e
+    either (letter b || isDigitSign b || isCode b "_") (isCode b "-") e
     (λ p.
-    either (letter b || digit b) (isCode b "_") p
+    either (letter b || isDigitSign b) (isCode b "_") p
     (λ q.
-    either (letter b) (digit b) q
+    either (letter b) (isDigitSign b) q
     (λ r.
     either (inRange 65 b 90) (inRange 97 b 122) r (ranged 65 90 b (omega arith) (omega arith)) (ranged 97 122 b (omega arith) (omega arith)))
     (ranged 48 57 b (omega arith) (omega arith)))
@@ -59,7 +59,7 @@ namechar-clean b e =
 letter-clean : (b : ℕ) → letterOrDigit b ≡ true → clean b ≡ true
 letter-clean b e = namechar-clean b (rw e)
 
-digit-clean : (b : ℕ) → digit b ≡ true → clean b ≡ true
+digit-clean : (b : ℕ) → isDigitSign b ≡ true → clean b ≡ true
 digit-clean b e = ranged 48 57 b (omega arith) (omega arith) e
 
 parameter-clean : (b : ℕ) → parameterByte b ≡ true → clean b ≡ true
@@ -112,7 +112,7 @@ count-clean : (n : ℕ) → 1 ≤ n → n ≤ 9 → all clean (countText n) ≡ 
 unfolding countText
 count-clean n low high =
     choose (ltb 1 n)
-    (λ q. rw q (all-append clean (decimal n) (bytes ")") (all-mono digit clean digit-clean (decimal n) (one-digit n low high .digits)) refl))
+    (λ q. rw q (all-append clean (decimal n) (bytes ")") (all-mono isDigitSign clean digit-clean (decimal n) (one-digit n low high .digits)) refl))
     (λ q. rw q)
 
 detail-clean : (code : ℕ) (d : Detail) → DetailFits code d → all clean (detailText code d) ≡ true

@@ -10,7 +10,7 @@ use Rattle.model.specs.Lists.{all, isEmpty}
 use Rattle.model.specs.Limits.{keysymLimit, smallDetailLimit}
 use Rattle.model.specs.Bytes.{isDigit, inRange}
 use Rattle.model.specs.Codes.{isKey, isButton, motionNotify, hasMode, mappingNotify}
-use Rattle.model.specs.Names.{Entry, named}
+use Rattle.model.specs.Names.{Entry, firstMeaning}
 use Rattle.model.specs.Details.{digitValue, digitsFrom, numberIn, keyDetail, smallNumber, nameOrNumber, detailNamed, buttonEntries, motionEntries, modeEntries, requestEntries}
 use Rattle.model.specs.Canonical.{digitsIn, decimal, hexadecimal, isValue, nameOrDecimal, valueText}
 use Rattle.model.specs.declared.names.DetailRead.{DetailRead}
@@ -79,19 +79,19 @@ small-reads entries e v h =
     reads-from (nameOrNumber entries (nameOrDecimal entries v)) v (nameOrDecimal entries v) (every-at 256 (smallReads entries) e v l)
 
 abbrev buttonReads : ℕ → Bool
-buttonReads v = reads (named buttonEntries DetailRead.Unknown (nameOrDecimal buttonEntries v)) v (nameOrDecimal buttonEntries v)
+buttonReads v = reads (firstMeaning buttonEntries DetailRead.Unknown (nameOrDecimal buttonEntries v)) v (nameOrDecimal buttonEntries v)
 
 buttons-read : every 5 (λ k. buttonReads (1 + k)) ≡ true
 unfolding every buttonEntries
 buttons-read = refl
 
-button-reads : (v : ℕ) → inRange 1 v 5 ≡ true → Reads (named buttonEntries DetailRead.Unknown (nameOrDecimal buttonEntries v)) v (nameOrDecimal buttonEntries v)
+button-reads : (v : ℕ) → inRange 1 v 5 ≡ true → Reads (firstMeaning buttonEntries DetailRead.Unknown (nameOrDecimal buttonEntries v)) v (nameOrDecimal buttonEntries v)
 button-reads v h =
     let low : 1 ≤ v = leb-true 1 v (both-left (leb 1 v) (leb v 5) h) in
     let high : v ≤ 5 = leb-true v 5 (both-right (leb 1 v) (leb v 5) h) in
     let l : v - 1 < 5 = omega arith in
     let e : 1 + (v - 1) ≡ v = omega arith in
-    reads-from (named buttonEntries DetailRead.Unknown (nameOrDecimal buttonEntries v)) v (nameOrDecimal buttonEntries v)
+    reads-from (firstMeaning buttonEntries DetailRead.Unknown (nameOrDecimal buttonEntries v)) v (nameOrDecimal buttonEntries v)
     (rw e at (every-at 5 (λ k. buttonReads (1 + k)) buttons-read (v - 1) l))
 
 key-reads : (v : ℕ) → leb v keysymLimit ≡ true → Reads (keyDetail (hexadecimal v)) v (hexadecimal v)

@@ -17,9 +17,9 @@ use Rattle.model.specs.Canonical.{joinedBy, each, bitName, bitText, writesBang,
 use Rattle.model.specs.declared.events.Detail.{Detail}
 use Rattle.model.specs.declared.events.KeptEvent.{KeptEvent}
 use Rattle.modifiers.proofs.Below.{both-left, both-right}
-use Rattle.grammar.specs.Bytes.{blank, letter, letterOrDigit, digit, detailByte}
-use Rattle.grammar.specs.Tokens.{begins, Word, Optional, isSome}
-use Rattle.grammar.specs.Modifiers.{standsAlone, parts, ModifierName, Modifier, Modifiers, ModifierList}
+use Rattle.grammar.specs.Bytes.{blank, letter, letterOrDigit, isDigitSign, detailByte}
+use Rattle.grammar.specs.Tokens.{beginsWith, Word, Optional, isSome}
+use Rattle.grammar.specs.Modifiers.{isLoneName, parts, DerivesModifierName, DerivesModifier, DerivesModifiers, DerivesModifierList}
 use Rattle.grammar.specs.Events as Grammar
 use Rattle.grammar.proofs.Places.{kind-not}
 use Rattle.roundtrip.proofs.Lists.{choose, begins-not}
@@ -45,7 +45,7 @@ letter-detail : (b : ℕ) → letterOrDigit b ≡ true → detailByte b ≡ true
 letter-detail b p =
     ap not (ap₂ _||_ (ap₂ _||_ (ap₂ _||_ (letter-blank b p) (letter-not (code ",") refl b p)) (letter-not (code ":") refl b p)) (letter-not 10 refl b p))
 
-digit-letter : (b : ℕ) → digit b ≡ true → letterOrDigit b ≡ true
+digit-letter : (b : ℕ) → isDigitSign b ≡ true → letterOrDigit b ≡ true
 digit-letter b p = rw p (or-any (letter b))
   where
     or-any : (a : Bool) → (a || true) ≡ true
@@ -54,9 +54,9 @@ digit-letter b p = rw p (or-any (letter b))
 
 -- what may follow an event: a comma or a colon
 pub record Ends (r : List ℕ) : Type 0 where
-  pub detail : begins detailByte r ≡ false
-  pub blank : begins blank r ≡ false
-  pub bracket : begins (λ b. isCode b "(") r ≡ false
+  pub detail : beginsWith detailByte r ≡ false
+  pub blank : beginsWith blank r ≡ false
+  pub bracket : beginsWith (λ b. isCode b "(") r ≡ false
 
 -- ---- Detail
 
@@ -70,23 +70,23 @@ all-detail (b ∷ w) p =
     ap₂ _&&_ (letter-detail b (both-left (letterOrDigit b) (all letterOrDigit w) p))
     (all-detail w (both-right (letterOrDigit b) (all letterOrDigit w) p))
 
-derive-detail : (d r : List ℕ) → all letterOrDigit d ≡ true → Ends r → Grammar.Detail (d ++ r) d r
+derive-detail : (d r : List ℕ) → all letterOrDigit d ≡ true → Ends r → Grammar.DerivesDetail (d ++ r) d r
 derive-detail d r a e =
-    Grammar.Detail.detail (no-blanks (d ++ r) (begins-not letterOrDigit blank letter-blank d r a (e .blank)))
+    Grammar.DerivesDetail.detail (no-blanks (d ++ r) (begins-not letterOrDigit blank letter-blank d r a (e .blank)))
     (run detailByte d r (all-detail d a) (e .detail))
 
 -- ---- Count
 
-counted : (w r : List ℕ) → all digit w ≡ true → isSome w ≡ true
+counted : (w r : List ℕ) → all isDigitSign w ≡ true → isSome w ≡ true
     → Grammar.OptionalCount (code "(" ∷ (w ++ (code ")" ∷ r))) (some (record { digits = w; plus = false })) r
 counted w r a s =
     Grammar.OptionalCount.present (sign "(" (w ++ (code ")" ∷ r)) refl)
-    (no-blanks (w ++ (code ")" ∷ r)) (begins-not digit blank (λ b p. letter-blank b (digit-letter b p)) w (code ")" ∷ r) a refl))
-    (word digit w (code ")" ∷ r) a s refl)
+    (no-blanks (w ++ (code ")" ∷ r)) (begins-not isDigitSign blank (λ b p. letter-blank b (digit-letter b p)) w (code ")" ∷ r) a refl))
+    (word isDigitSign w (code ")" ∷ r) a s refl)
     (Optional.missing (no-blanks (code ")" ∷ r) refl))
     (sign ")" r refl)
 
-derive-count : (n : ℕ) (r : List ℕ) → 1 ≤ n → n ≤ 9 → begins blank r ≡ false → begins (λ b. isCode b "(") r ≡ false
+derive-count : (n : ℕ) (r : List ℕ) → 1 ≤ n → n ≤ 9 → beginsWith blank r ≡ false → beginsWith (λ b. isCode b "(") r ≡ false
     → Grammar.OptionalCount (countText n ++ r) (countOf n) r
 unfolding countText countOf
 derive-count n r low high b c =
@@ -100,26 +100,26 @@ derive-count n r low high b c =
 -- ---- Type
 
 derive-type : (w r : List ℕ) → all letterOrDigit w ≡ true → isSome w ≡ true
-    → Grammar.EventType (code "<" ∷ (w ++ (code ">" ∷ r))) w r
+    → Grammar.DerivesEventType (code "<" ∷ (w ++ (code ">" ∷ r))) w r
 derive-type w r a s =
-    Grammar.EventType.event-type (sign "<" (w ++ (code ">" ∷ r)) refl)
+    Grammar.DerivesEventType.event-type (sign "<" (w ++ (code ">" ∷ r)) refl)
     (no-blanks (w ++ (code ">" ∷ r)) (begins-not letterOrDigit blank letter-blank w (code ">" ∷ r) a refl))
     (word letterOrDigit w (code ">" ∷ r) a s refl)
     (sign ">" r refl)
 
--- ---- Modifiers
+-- ---- DerivesModifiers
 
 module _ (e : KeptEvent) where
-  derive-modifier : (k : ℕ) (bs r : List ℕ) → WellNamed k → all blank bs ≡ true → begins letterOrDigit r ≡ false
-      → Modifier (bs ++ (bitText e k ++ r)) (modifierOf e k) r
+  derive-modifier : (k : ℕ) (bs r : List ℕ) → WellNamed k → all blank bs ≡ true → beginsWith letterOrDigit r ≡ false
+      → DerivesModifier (bs ++ (bitText e k ++ r)) (modifierOf e k) r
   derive-modifier k bs r n a b =
       let w : Word letterOrDigit (bitName k ++ r) (bitName k) r = word letterOrDigit (bitName k) r (n .letters) (n .some) b in
-      let f : begins blank (bitName k ++ r) ≡ false = name-blank (bitName k) (n .letters) (n .some) in
+      let f : beginsWith blank (bitName k ++ r) ≡ false = name-blank (bitName k) (n .letters) (n .some) in
       choose (bit k (e .set))
-      (λ q. rw q (Modifier.plain (ModifierName.name (record { blanks = bs; run = run blank bs (bitName k ++ r) a f }) w)))
-      (λ q. rw q (Modifier.tilde (sign-after "~" bs (bitName k ++ r) a refl) (ModifierName.name (no-blanks (bitName k ++ r) f) w)))
+      (λ q. rw q (DerivesModifier.plain (DerivesModifierName.name (record { blanks = bs; run = run blank bs (bitName k ++ r) a f }) w)))
+      (λ q. rw q (DerivesModifier.tilde (sign-after "~" bs (bitName k ++ r) a refl) (DerivesModifierName.name (no-blanks (bitName k ++ r) f) w)))
     where
-      name-blank : (w : List ℕ) → all letterOrDigit w ≡ true → isSome w ≡ true → begins blank (w ++ r) ≡ false
+      name-blank : (w : List ℕ) → all letterOrDigit w ≡ true → isSome w ≡ true → beginsWith blank (w ++ r) ≡ false
       name-blank [] p s = absurd (false≢true s)
       name-blank (c ∷ w) p s = letter-blank c (both-left (letterOrDigit c) (all letterOrDigit w) p)
 
@@ -127,23 +127,23 @@ module _ (e : KeptEvent) where
     abbrev rest : List ℕ → List ℕ
     rest ks = behind (bytes " ") (each (bitText e) ks) ++ (code "<" ∷ r)
 
-    rest-parts : (ks : List ℕ) → begins parts (rest ks) ≡ true
+    rest-parts : (ks : List ℕ) → beginsWith parts (rest ks) ≡ true
     rest-parts [] = refl
     rest-parts (k ∷ ks) = refl
 
-    rest-stops : (ks : List ℕ) → begins letterOrDigit (rest ks) ≡ false
+    rest-stops : (ks : List ℕ) → beginsWith letterOrDigit (rest ks) ≡ false
     rest-stops [] = refl
     rest-stops (k ∷ ks) = refl
 
     -- those behind the first
-    derive-rest : (ks : List ℕ) → all wellNamed ks ≡ true → Modifiers (rest ks) (map (modifierOf e) ks) (code "<" ∷ r)
-    derive-rest [] w = Modifiers.none
+    derive-rest : (ks : List ℕ) → all wellNamed ks ≡ true → DerivesModifiers (rest ks) (map (modifierOf e) ks) (code "<" ∷ r)
+    derive-rest [] w = DerivesModifiers.none
     derive-rest (k ∷ ks) w =
         let n : WellNamed k = well-named k (both-left (wellNamed k) (all wellNamed ks) w) in
-        let m : Modifier (bytes " " ++ (bitText e k ++ rest ks)) (modifierOf e k) (rest ks) =
+        let m : DerivesModifier (bytes " " ++ (bitText e k ++ rest ks)) (modifierOf e k) (rest ks) =
         derive-modifier k (bytes " ") (rest ks) n refl (rest-stops ks) in
         rw (append-assoc (bitText e k) (behind (bytes " ") (each (bitText e) ks)) (code "<" ∷ r))
-        (Modifiers.more m (rest-parts ks) (derive-rest ks (both-right (wellNamed k) (all wellNamed ks) w)))
+        (DerivesModifiers.more m (rest-parts ks) (derive-rest ks (both-right (wellNamed k) (all wellNamed ks) w)))
 
     abbrev allBits : List ℕ → List ℕ
     allBits ks = joinedBy (bytes " ") (each (bitText e) ks) ++ (code "<" ∷ r)
@@ -153,49 +153,49 @@ module _ (e : KeptEvent) where
         ap {B = List ℕ} (λ x. x ++ (code "<" ∷ r)) (joined-behind (bytes " ") (bitText e k) (each (bitText e) ks))
         ∙ append-assoc (bitText e k) (behind (bytes " ") (each (bitText e) ks)) (code "<" ∷ r)
 
-    derive-bits : (ks : List ℕ) → all wellNamed ks ≡ true → Modifiers (allBits ks) (map (modifierOf e) ks) (code "<" ∷ r)
-    derive-bits [] w = rw (joined-none (bytes " ")) Modifiers.none
+    derive-bits : (ks : List ℕ) → all wellNamed ks ≡ true → DerivesModifiers (allBits ks) (map (modifierOf e) ks) (code "<" ∷ r)
+    derive-bits [] w = rw (joined-none (bytes " ")) DerivesModifiers.none
     derive-bits (k ∷ ks) w =
         let n : WellNamed k = well-named k (both-left (wellNamed k) (all wellNamed ks) w) in
         rw (first-bit k ks)
-        (Modifiers.more (derive-modifier k [] (rest ks) n refl (rest-stops ks)) (rest-parts ks)
+        (DerivesModifiers.more (derive-modifier k [] (rest ks) n refl (rest-stops ks)) (rest-parts ks)
         (derive-rest ks (both-right (wellNamed k) (all wellNamed ks) w)))
 
     -- the first byte is a letter, `~` or `<`
     abbrev starts : ℕ → Bool
     starts b = letterOrDigit b || (isCode b "~" || isCode b "<")
 
-    name-starts : (w m : List ℕ) → all letterOrDigit w ≡ true → isSome w ≡ true → begins starts (w ++ m) ≡ true
+    name-starts : (w m : List ℕ) → all letterOrDigit w ≡ true → isSome w ≡ true → beginsWith starts (w ++ m) ≡ true
     name-starts [] m p s = absurd (false≢true s)
     name-starts (c ∷ w) m p s = rw (both-left (letterOrDigit c) (all letterOrDigit w) p)
 
-    bit-starts : (k : ℕ) (m : List ℕ) → WellNamed k → begins starts (bitText e k ++ m) ≡ true
+    bit-starts : (k : ℕ) (m : List ℕ) → WellNamed k → beginsWith starts (bitText e k ++ m) ≡ true
     bit-starts k m n = choose (bit k (e .set)) (λ q. rw q (name-starts (bitName k) m (n .letters) (n .some))) (λ q. rw q)
 
-    bits-start : (ks : List ℕ) → all wellNamed ks ≡ true → begins starts (allBits ks) ≡ true
+    bits-start : (ks : List ℕ) → all wellNamed ks ≡ true → beginsWith starts (allBits ks) ≡ true
     bits-start [] w = rw (joined-none (bytes " "))
     bits-start (k ∷ ks) w =
         rw (first-bit k ks) (bit-starts k (rest ks) (well-named k (both-left (wellNamed k) (all wellNamed ks) w)))
 
-    begins-blank : (m : List ℕ) → begins starts m ≡ true → begins blank m ≡ false
+    begins-blank : (m : List ℕ) → beginsWith starts m ≡ true → beginsWith blank m ≡ false
     begins-blank [] p = refl
     begins-blank (b ∷ m) p = ap₂ _||_ (kind-not starts 32 refl b p) (kind-not starts 9 refl b p)
 
-    derive-colon : (c : Bool) (m : List ℕ) → begins starts m ≡ true → Optional ":" (cond c (bytes ":") [] ++ m) c m
+    derive-colon : (c : Bool) (m : List ℕ) → beginsWith starts m ≡ true → Optional ":" (cond c (bytes ":") [] ++ m) c m
     derive-colon true m p = Optional.there (sign ":" m refl)
     derive-colon false m p = Optional.missing (no-blanks m (begins-blank m p))
 
-    derive-bang : (b c : Bool) (m : List ℕ) → begins starts m ≡ true
+    derive-bang : (b c : Bool) (m : List ℕ) → beginsWith starts m ≡ true
         → Optional "!" (cond b (bytes "!") [] ++ (cond c (bytes ":") [] ++ m)) b (cond c (bytes ":") [] ++ m)
     derive-bang true c m p = Optional.there (sign "!" (cond c (bytes ":") [] ++ m) refl)
     derive-bang false true m p = Optional.missing (no-blanks (code ":" ∷ m) refl)
     derive-bang false false m p = Optional.missing (no-blanks m (begins-blank m p))
 
-    none-alone : (ks : List ℕ) → all wellNamed ks ≡ true → Lists.any standsAlone (map (modifierOf e) ks) ≡ false
+    none-alone : (ks : List ℕ) → all wellNamed ks ≡ true → Lists.any isLoneName (map (modifierOf e) ks) ≡ false
     none-alone [] w = refl
     none-alone (k ∷ ks) w =
         ap₂ _||_
-        (not-true (standsAlone (Written.Modifier.name false (bitName k))) (well-named k (both-left (wellNamed k) (all wellNamed ks) w) .plain))
+        (not-true (isLoneName (Written.Modifier.name false (bitName k))) (well-named k (both-left (wellNamed k) (all wellNamed ks) w) .plain))
         (none-alone ks (both-right (wellNamed k) (all wellNamed ks) w))
 
     modifiers-text : modifiersText e ++ (code "<" ∷ r)
@@ -207,12 +207,12 @@ module _ (e : KeptEvent) where
         ∙ ap {B = List ℕ} (λ x. cond (writesBang e) (bytes "!") [] ++ x)
         (append-assoc (cond (e .colon) (bytes ":") []) (joinedBy (bytes " ") (each (bitText e) (bitsOf e))) (code "<" ∷ r))
 
-    derive-list : ModifierList (modifiersText e ++ (code "<" ∷ r)) (listOf e) (code "<" ∷ r)
+    derive-list : DerivesModifierList (modifiersText e ++ (code "<" ∷ r)) (listOf e) (code "<" ∷ r)
     unfolding listOf
     derive-list =
-        let p : begins starts (allBits (bitsOf e)) ≡ true = bits-start (bitsOf e) (bits-named e) in
+        let p : beginsWith starts (allBits (bitsOf e)) ≡ true = bits-start (bitsOf e) (bits-named e) in
         rw modifiers-text
-        (ModifierList.listed (derive-bang (writesBang e) (e .colon) (allBits (bitsOf e)) p) (derive-colon (e .colon) (allBits (bitsOf e)) p)
+        (DerivesModifierList.listed (derive-bang (writesBang e) (e .colon) (allBits (bitsOf e)) p) (derive-colon (e .colon) (allBits (bitsOf e)) p)
         (derive-bits (bitsOf e) (bits-named e)) (none-alone (bitsOf e) (bits-named e)))
 
   -- ---- The event
@@ -232,13 +232,13 @@ module _ (e : KeptEvent) where
         (append-assoc (typeText e) (code ">" ∷ (countText (e .count) ++ detailText (e .code) (e .detail))) r
         ∙ ap {B = List ℕ} (λ x. typeText e ++ (code ">" ∷ x)) (append-assoc (countText (e .count)) (detailText (e .code) (e .detail)) r))
 
-    pub derive-event : Grammar.Event (eventText e ++ r) (writtenOf e) r
+    pub derive-event : Grammar.DerivesEvent (eventText e ++ r) (writtenOf e) r
     derive-event =
         let t : WellTyped (typeText e) (typeOf (e .code) (e .clause)) =
         well-typed e (w .range .code-from) (w .range .code-to) (w .sound .motion) in
         let a : all letterOrDigit (detailText (e .code) (e .detail)) ≡ true = detail-letters (e .code) (e .detail) (w .sound .detail) in
         rw event-text
-        (Grammar.Event.event (derive-list (typeText e ++ (code ">" ∷ afterType))) (derive-type (typeText e) afterType (t .letters) (t .some))
+        (Grammar.DerivesEvent.event (derive-list (typeText e ++ (code ">" ∷ afterType))) (derive-type (typeText e) afterType (t .letters) (t .some))
         (derive-count (e .count) detailed (w .range .count-from) (w .range .count-to)
         (begins-not letterOrDigit blank letter-blank (detailText (e .code) (e .detail)) r a (ends .blank))
         (begins-not letterOrDigit (λ b. isCode b "(") letter-bracket (detailText (e .code) (e .detail)) r a (ends .bracket)))

@@ -7,7 +7,7 @@ use mathlib.Core.List.{List, [], _∷_, _++_, append-nil}
 use Rattle.model.specs.Lists.{all}
 use Rattle.model.specs.Canonical.{joinedBy}
 use Rattle.grammar.specs.Bytes.{blank}
-use Rattle.grammar.specs.Tokens.{begins, Run, Blanks, Sign, isSome, Word}
+use Rattle.grammar.specs.Tokens.{beginsWith, Run, Blanks, Sign, isSome, Word}
 
 abbrev pub behind : List ℕ → List (List ℕ) → List ℕ
 behind sep [] = []
@@ -24,13 +24,13 @@ joined-none sep = refl
 
 -- ---- Tokens
 
-pub run : (kind : ℕ → Bool) (w r : List ℕ) → all kind w ≡ true → begins kind r ≡ false → Run kind (w ++ r) w r
+pub run : (kind : ℕ → Bool) (w r : List ℕ) → all kind w ≡ true → beginsWith kind r ≡ false → Run kind (w ++ r) w r
 run kind w r a b = record { split = refl; within = a; longest = b }
 
-pub word : (kind : ℕ → Bool) (w r : List ℕ) → all kind w ≡ true → isSome w ≡ true → begins kind r ≡ false → Word kind (w ++ r) w r
+pub word : (kind : ℕ → Bool) (w r : List ℕ) → all kind w ≡ true → isSome w ≡ true → beginsWith kind r ≡ false → Word kind (w ++ r) w r
 word kind w r a s b = record { run = run kind w r a b; some = s }
 
-pub no-blanks : (r : List ℕ) → begins blank r ≡ false → Blanks r r
+pub no-blanks : (r : List ℕ) → beginsWith blank r ≡ false → Blanks r r
 no-blanks r b = record { blanks = []; run = run blank [] r refl b }
 
 -- a sign behind blanks

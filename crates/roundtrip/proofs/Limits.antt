@@ -7,7 +7,7 @@ use lib.Dec.{ltb}
 use lib.ListN.{length}
 use Rattle.model.specs.Lists.{any, inAll}
 use Rattle.model.specs.Limits.{productionLimit, sequenceLimit, eventLimit, callsOfProductionLimit, callLimit, parametersOfCallLimit, parameterLimit}
-use Rattle.model.specs.Asking.{bytesOf}
+use Rattle.model.specs.Asking.{partBytes}
 use Rattle.model.specs.Counts.{expanded, sequence}
 use Rattle.model.specs.Tables.{Call, Production}
 use Rattle.model.specs.Compiling.{productionPasses, totalsPass, passesLimit}
@@ -42,7 +42,7 @@ module _ {A B : Type 0} (f : A → B) where
 
 module _ (first second : List ℕ) where
   call-parameters : (c : Call) → length (callBytes first second c .parameters) ≡ length (c .parameters)
-  call-parameters c = map-length (bytesOf first second (c .second)) (c .parameters)
+  call-parameters c = map-length (partBytes first second (c .second)) (c .parameters)
 
   production-same : (p : Production) → contentPasses (content first second p) ≡ productionPasses p
   unfolding contentPasses productionPasses sequence

@@ -66,7 +66,7 @@ events-kept (e ∷ es) k = EventsKept.more (judged-again e (k .0)) (events-kept 
 
 pub record LineGot (x : Content) : Type 0 where
   pub calls : List WrittenCall
-  pub derived : Grammar.Production (lineText x) (writtenEvents (x .events)) calls
+  pub derived : Grammar.DerivesProduction (lineText x) (writtenEvents (x .events)) calls
   pub held : CallsHeld (lineText x) calls (x .calls)
 
 left : (es : List KeptEvent) (r : List ℕ) → isSome es ≡ true → AllKept es
@@ -82,7 +82,7 @@ derive-line x g =
     record {
       calls = c .calls;
       derived =
-          Grammar.Production.production (left (x .events) (callsText (x .calls)) (g .some) (g .kept)) (sign ":" (callsText (x .calls)) refl)
+          Grammar.DerivesProduction.production (left (x .events) (callsText (x .calls)) (g .some) (g .kept)) (sign ":" (callsText (x .calls)) refl)
           (c .derived);
       held = c .held;
     }

@@ -5,7 +5,7 @@ use mathlib.Core.Bool.{Bool, true, false, cond, _&&_, _||_, false≢true}
 use mathlib.Core.List.{List, [], _∷_, _++_}
 use Rattle.model.specs.Lists.{any, all, those}
 use Rattle.modifiers.proofs.Below.{both-left, both-right}
-use Rattle.grammar.specs.Tokens.{begins, isSome}
+use Rattle.grammar.specs.Tokens.{beginsWith, isSome}
 
 pub or-left : (a b : Bool) → (a || b) ≡ false → a ≡ false
 or-left true b e = e
@@ -71,6 +71,6 @@ module _ {A : Type 0} where
 
 -- a byte at the front of bytes that all pass one test and then bytes that do not begin so
 pub begins-not : (kind test : ℕ → Bool) → ((b : ℕ) → kind b ≡ true → test b ≡ false) → (w r : List ℕ) → all kind w ≡ true
-    → begins test r ≡ false → begins test (w ++ r) ≡ false
+    → beginsWith test r ≡ false → beginsWith test (w ++ r) ≡ false
 begins-not kind test h [] r p q = q
 begins-not kind test h (b ∷ w) r p q = h b (both-left (kind b) (all kind w) p)

@@ -21,7 +21,7 @@ use Rattle.model.specs.declared.names.ModifierName.{ModifierName}
 use Rattle.modifiers.proofs.Below.{every, every-at, both-left, both-right}
 use Rattle.grammar.specs.Bytes.{letterOrDigit}
 use Rattle.grammar.specs.Tokens.{isSome}
-use Rattle.grammar.specs.Modifiers.{standsAlone}
+use Rattle.grammar.specs.Modifiers.{isLoneName}
 use Rattle.roundtrip.proofs.Lists.{choose, all-those}
 
 -- ---- Modifiers
@@ -30,7 +30,7 @@ use Rattle.roundtrip.proofs.Lists.{choose, all-those}
 abbrev pub wellNamed : ℕ → Bool
 wellNamed k =
     isBit k (modifierNamed (bitName k))
-    && (isSome (bitName k) && (all letterOrDigit (bitName k) && not (standsAlone (Written.Modifier.name false (bitName k)))))
+    && (isSome (bitName k) && (all letterOrDigit (bitName k) && not (isLoneName (Written.Modifier.name false (bitName k)))))
 
 pub order-named : all wellNamed writingOrder ≡ true
 unfolding modifierNamed bitName modifierEntries
@@ -60,14 +60,14 @@ pub record WellNamed (k : ℕ) : Type 0 where
   pub stands : modifierNamed (bitName k) ≡ ModifierName.Bit k
   pub some : isSome (bitName k) ≡ true
   pub letters : all letterOrDigit (bitName k) ≡ true
-  pub plain : not (standsAlone (Written.Modifier.name false (bitName k))) ≡ true
+  pub plain : not (isLoneName (Written.Modifier.name false (bitName k))) ≡ true
 
 pub well-named : (k : ℕ) → wellNamed k ≡ true → WellNamed k
 well-named k e =
     let a : Bool = isBit k (modifierNamed (bitName k)) in
     let b : Bool = isSome (bitName k) in
     let c : Bool = all letterOrDigit (bitName k) in
-    let d : Bool = not (standsAlone (Written.Modifier.name false (bitName k))) in
+    let d : Bool = not (isLoneName (Written.Modifier.name false (bitName k))) in
     record {
       stands = is-bit k (modifierNamed (bitName k)) (both-left a (b && (c && d)) e);
       some = both-left b (c && d) (both-right a (b && (c && d)) e);

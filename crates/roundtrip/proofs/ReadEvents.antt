@@ -59,7 +59,7 @@ events-written : (l : List ℕ) (es : List WrittenEvent) (cs : List WrittenCall)
 events-written l es cs EventsRead.broken w e = let z : _≡_ {A = ℕ} 0 1 = cc in absurd (omega arith)
 events-written l es cs (events fs next) w e = calls-written es fs cs (rightSide l next) w e
 
-line-written : (l : List ℕ) {es : List WrittenEvent} {cs : List WrittenCall} → all allowedByte l ≡ true → Grammar.Production l es cs
+line-written : (l : List ℕ) {es : List WrittenEvent} {cs : List WrittenCall} → all allowedByte l ≡ true → Grammar.DerivesProduction l es cs
     → AllWritten es
 unfolding lineRead
 line-written l {es} {cs} a d =
@@ -70,7 +70,7 @@ all-kept w EventsKept.nothing = tt
 all-kept w (EventsKept.more {e = e} {k = k} q d) = (kept-well e k (w .0) q, all-kept (w .1) d)
 
 pub line-kept : (l : List ℕ) {es : List WrittenEvent} {cs : List WrittenCall} {ks : List KeptEvent} → all allowedByte l ≡ true
-    → Grammar.Production l es cs → EventsKept es ks → AllKept ks
+    → Grammar.DerivesProduction l es cs → EventsKept es ks → AllKept ks
 line-kept l a d k = all-kept (line-written l a d) k
 
 -- ---- At least one
@@ -91,6 +91,6 @@ kept-some : {es : List WrittenEvent} {ks : List KeptEvent} → EventsKept es ks 
 kept-some EventsKept.nothing e = e
 kept-some (EventsKept.more q d) e = refl
 
-pub line-some : {l : List ℕ} {es : List WrittenEvent} {cs : List WrittenCall} {ks : List KeptEvent} → Grammar.Production l es cs
+pub line-some : {l : List ℕ} {es : List WrittenEvent} {cs : List WrittenCall} {ks : List KeptEvent} → Grammar.DerivesProduction l es cs
     → EventsKept es ks → isSome ks ≡ true
-line-some (Grammar.Production.production d s c) k = kept-some k (left-some d)
+line-some (Grammar.DerivesProduction.production d s c) k = kept-some k (left-some d)

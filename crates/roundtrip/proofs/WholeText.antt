@@ -12,8 +12,8 @@ use Rattle.model.specs.Compiling.{callOf}
 use Rattle.model.specs.Tables as Tables
 use Rattle.modifiers.proofs.Below.{both-left, both-right}
 use Rattle.grammar.specs.Bytes.{allowedByte, lineByte}
-use Rattle.grammar.specs.Texts.{Line, Derived, startOf, Lines}
-use Rattle.grammar.specs.Compiling.{productionOf, Kept}
+use Rattle.grammar.specs.Texts.{Line, Derived, startInText, Lines}
+use Rattle.grammar.specs.Compiling.{productionOf, ProductionsKept}
 use Rattle.roundtrip.specs.Contents.{Content, callBytes, content}
 use Rattle.roundtrip.proofs.Lists.{all-mono, all-append}
 use Rattle.roundtrip.proofs.Joined.{run}
@@ -37,7 +37,7 @@ pub record LinesGot (text l : List ℕ) (xs : List Content) : Type 0 where
   pub derived : List Derived
   pub lines : Lines text (some l) derived none
   pub productions : List Tables.Production
-  pub kept : Kept derived productions
+  pub kept : ProductionsKept derived productions
   pub same : map (content text []) productions ≡ xs
 
 module _ (text : List ℕ) where
@@ -49,14 +49,14 @@ module _ (text : List ℕ) where
       let got : LineGot x = derive-line x g in
       let c : all lineByte (lineText x) ≡ true =
       all-mono clean lineByte (λ b q. both-right (allowedByte b) (lineByte b) q) (lineText x) (line-clean x g) in
-      let s : startOf text l ≡ length b = omega (arith, ap length e ∙ length-append b l) in
-      let m : map (callBytes text []) (map (callOf (startOf text l)) (got .calls)) ≡ x .calls =
+      let s : startInText text l ≡ length b = omega (arith, ap length e ∙ length-append b l) in
+      let m : map (callBytes text []) (map (callOf (startInText text l)) (got .calls)) ≡ x .calls =
       (λ i. map (callBytes (e i) []) (map (callOf (s i)) (got .calls))) ∙ calls-bytes (lineText x) b (10 ∷ r) [] (got .held) in
       record {
-        derived = record { start = startOf text l; events = writtenEvents (x .events); calls = got .calls } ∷ rest .derived;
+        derived = record { start = startInText text l; events = writtenEvents (x .events); calls = got .calls } ∷ rest .derived;
         lines = Lines.production (Line.newline (run lineByte (lineText x) (10 ∷ r) c refl)) (got .derived) (rest .lines);
-        productions = productionOf (startOf text l) (x .events) (got .calls) ∷ rest .productions;
-        kept = Kept.more (events-kept (x .events) (g .kept)) (rest .kept);
+        productions = productionOf (startInText text l) (x .events) (got .calls) ∷ rest .productions;
+        kept = ProductionsKept.more (events-kept (x .events) (g .kept)) (rest .kept);
         same = λ i. record { events = x .events; calls = m i } ∷ rest .same i;
       }
 
@@ -66,7 +66,7 @@ module _ (text : List ℕ) where
         derived = [];
         lines = Lines.blanks (Line.last (run lineByte [] [] refl refl)) refl Lines.done;
         productions = [];
-        kept = Kept.nothing;
+        kept = ProductionsKept.nothing;
         same = refl;
       }
   lines-got (x ∷ xs) b g e =

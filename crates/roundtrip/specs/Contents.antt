@@ -1,7 +1,7 @@
 -- What a table says over its texts: events as kept, and calls by the bytes of their names and parameters.
 use Prim.Native.Nat.{ℕ}
 use mathlib.Core.List.{List, map}
-use Rattle.model.specs.Asking.{bytesOf}
+use Rattle.model.specs.Asking.{partBytes}
 use Rattle.model.specs.Tables.{Call, Production, Table}
 use Rattle.model.specs.declared.events.KeptEvent.{KeptEvent}
 
@@ -18,8 +18,8 @@ module _ (first second : List ℕ) where
   abbrev pub callBytes : Call → CallBytes
   callBytes c =
       record {
-        name = bytesOf first second (c .second) (c .name);
-        parameters = map (bytesOf first second (c .second)) (c .parameters);
+        name = partBytes first second (c .second) (c .name);
+        parameters = map (partBytes first second (c .second)) (c .parameters);
       }
 
   abbrev pub content : Production → Content

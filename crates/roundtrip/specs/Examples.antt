@@ -15,15 +15,15 @@ writtenFrom text (refused number place) = []
 abbrev pub canonical : List ℕ → List ℕ
 canonical text = writtenFrom text (compiled text)
 
-pub record Example : Type 0 where
+pub record WrittenExample : Type 0 where
   pub text : String
   pub canonical : String
 
-abbrev pub gives : String → String → Example
+abbrev pub gives : String → String → WrittenExample
 gives text canonical = record { text = text; canonical = canonical }
 
-unfoldable pub examples : List Example
-examples =
+unfoldable pub writtenExamples : List WrittenExample
+writtenExamples =
     gives "#override\ns c<Key>a : go(now,) stop()\n<Btn1Up>(2): ok()"
     "Ctrl Shift<KeyPress>0x61:go(\"now\",\"\") stop()\n<ButtonRelease>(2)Button1:ok()\n"
     -- no directive, no blank line, a newline at the end of every line
@@ -47,8 +47,8 @@ examples =
     ∷ []
 
 -- the text comes to its canonical one, and that to itself
-abbrev pub comesTo : Example → Bool
+abbrev pub comesTo : WrittenExample → Bool
 comesTo e = same (canonical (bytes (e .text))) (bytes (e .canonical)) && same (canonical (bytes (e .canonical))) (bytes (e .canonical))
 
 abbrev pub allCome : Bool
-allCome = all comesTo examples
+allCome = all comesTo writtenExamples

@@ -10,7 +10,7 @@ use lib.Dec.{ltb}
 use borrow.Author.Tests.{lt-ltb, le-ltb, ltb-true, ltb-false}
 use Rattle.model.specs.Lists.{any, inAll}
 use Rattle.model.specs.Bytes.{skip, signAt}
-use Rattle.model.specs.Calls.{WrittenCall, span, Parameters, parameters, oneMore, parameterAt, parametersNext, parametersFrom, parametersPast, parametersAt, callAt, CallsRead, calls, oneMoreCall, withParameters, callsNext, callsFrom}
+use Rattle.model.specs.Calls.{WrittenCall, span, Parameters, parameters, oneParameterMore, parameterAt, parametersNext, parametersFrom, parametersPast, parametersAt, callAt, CallsRead, calls, oneMoreCall, withParameters, callsNext, callsFrom}
 use Rattle.model.specs.declared.scan.Span.{Span}
 use Rattle.model.specs.declared.scan.CallRead.{CallRead}
 use Rattle.model.specs.declared.scan.ParameterRead.{ParameterRead}
@@ -18,7 +18,7 @@ use Rattle.scanner.specs.declared.sides.ParametersOpen.{ParametersOpen}
 use Rattle.scanner.specs.declared.sides.ParametersRead.{ParametersRead}
 use Rattle.scanner.specs.declared.sides.CallSpans.{CallSpans}
 use Rattle.scanner.specs.declared.sides.RightRead.{RightRead}
-use Rattle.scanner.specs.Sides.{openFrom, openAt, counted, callCounted, callSpans, parametersOf, mostOf, rightOf}
+use Rattle.scanner.specs.Sides.{openFrom, openAt, parametersCounted, callCounted, callSpans, parameterNumber, mostOf, rightOf}
 use Rattle.scanner.proofs.Runs.{skip-from, skip-in, sign-in}
 use Rattle.scanner.proofs.Ranges.{cond-in, ParameterIn, parameter-in, CallIn, call-in}
 
@@ -35,11 +35,11 @@ abbrev pub countedFrom : ℕ → Parameters → ParametersRead
 countedFrom n Parameters.broken = ParametersRead.Broken
 countedFrom n (parameters ss next) = ParametersRead.Parameters (n + length ss) next
 
-pub counted-start : (r : Parameters) → counted r ≡ countedFrom 0 r
+pub counted-start : (r : Parameters) → parametersCounted r ≡ countedFrom 0 r
 counted-start Parameters.broken = refl
 counted-start (parameters ss next) = λ i. ParametersRead.Parameters (sym (zero-add (length ss)) i) next
 
-pub counted-more : (n : ℕ) (s : Span) (rest : Parameters) → countedFrom n (oneMore s rest) ≡ countedFrom (n + 1) rest
+pub counted-more : (n : ℕ) (s : Span) (rest : Parameters) → countedFrom n (oneParameterMore s rest) ≡ countedFrom (n + 1) rest
 counted-more n s Parameters.broken = refl
 counted-more n s (parameters ss next) =
     let e : n + suc (length ss) ≡ n + 1 + length ss = omega arith in
@@ -79,7 +79,7 @@ abbrev pub ParametersIn : ℕ → ℕ → Parameters → Type 0
 ParametersIn n at Parameters.broken = Unit
 ParametersIn n at (parameters ss next) = (at + length ss ≤ next) × (at < next) × (next ≤ n)
 
-one-more-in : (n at p : ℕ) (s : Span) (rest : Parameters) → at < p → ParametersIn n p rest → ParametersIn n at (oneMore s rest)
+one-more-in : (n at p : ℕ) (s : Span) (rest : Parameters) → at < p → ParametersIn n p rest → ParametersIn n at (oneParameterMore s rest)
 one-more-in n at p s Parameters.broken h k = tt
 one-more-in n at p s (parameters ss next) h k = (omega (arith, k .0), omega (arith, k .1), k .2)
 
@@ -116,7 +116,7 @@ CallSpansIn n at CallSpans.End = Unit
 CallSpansIn n at (CallSpans.Call start end count next) = (at ≤ start) × (start < end) × (end + count < next) × (next ≤ n)
 
 call-counted-in : (n at start end : ℕ) (r : Parameters) → at ≤ start → start < end → ParametersIn n (end + 1) r
-    → CallSpansIn n at (callCounted start end (counted r))
+    → CallSpansIn n at (callCounted start end (parametersCounted r))
 call-counted-in n at start end Parameters.broken a b h = tt
 call-counted-in n at start end (parameters ss next) a b h = (a, b, omega (arith, h .0), h .2)
 
@@ -132,7 +132,7 @@ call-spans-in l at = call-spans-of-in l at (callAt l at) (call-in l at)
 -- what is kept of calls, after n of them with p parameters, at most m each
 abbrev pub rightFrom : ℕ → ℕ → ℕ → CallsRead → RightRead
 rightFrom n p m CallsRead.broken = RightRead.Broken
-rightFrom n p m (calls cs) = RightRead.Right (n + length cs) (p + inAll parametersOf cs) (max m (mostOf cs))
+rightFrom n p m (calls cs) = RightRead.Right (n + length cs) (p + inAll parameterNumber cs) (max m (mostOf cs))
 
 max-zero : (m : ℕ) → max m 0 ≡ m
 max-zero m = omega arith
@@ -146,7 +146,7 @@ max-assoc a b c = omega arith
 pub right-start : (r : CallsRead) → rightOf r ≡ rightFrom 0 0 0 r
 right-start CallsRead.broken = refl
 right-start (calls cs) =
-    λ i. RightRead.Right (sym (zero-add (length cs)) i) (sym (zero-add (inAll parametersOf cs)) i) (zero-max (mostOf cs) i)
+    λ i. RightRead.Right (sym (zero-add (length cs)) i) (sym (zero-add (inAll parameterNumber cs)) i) (zero-max (mostOf cs) i)
 
 abbrev pub rightStep : ℕ → ℕ → ℕ → CallSpans → (ℕ → ℕ → ℕ → ℕ → RightRead) → RightRead
 rightStep n p m CallSpans.Broken rest = RightRead.Broken
@@ -155,16 +155,16 @@ rightStep n p m (CallSpans.Call start end count next) rest = rest (n + 1) (p + c
 
 module _ (n p m : ℕ) where
   one-more-right : (c : WrittenCall) (rest : CallsRead)
-      → rightFrom n p m (oneMoreCall c rest) ≡ rightFrom (n + 1) (p + parametersOf c) (max m (parametersOf c)) rest
+      → rightFrom n p m (oneMoreCall c rest) ≡ rightFrom (n + 1) (p + parameterNumber c) (max m (parameterNumber c)) rest
   one-more-right c CallsRead.broken = refl
   one-more-right c (calls cs) =
       let a : n + suc (length cs) ≡ n + 1 + length cs = omega arith in
-      let b : p + (parametersOf c + inAll parametersOf cs) ≡ p + parametersOf c + inAll parametersOf cs = omega arith in
-      λ i. RightRead.Right (a i) (b i) (max-assoc m (parametersOf c) (mostOf cs) i)
+      let b : p + (parameterNumber c + inAll parameterNumber cs) ≡ p + parameterNumber c + inAll parameterNumber cs = omega arith in
+      λ i. RightRead.Right (a i) (b i) (max-assoc m (parameterNumber c) (mostOf cs) i)
 
   parameters-right : (start end : ℕ) (r : Parameters) (rest : ℕ → CallsRead)
       → rightFrom n p m (withParameters (span start end) r rest)
-      ≡ rightStep n p m (callCounted start end (counted r)) (λ n p m q. rightFrom n p m (rest q))
+      ≡ rightStep n p m (callCounted start end (parametersCounted r)) (λ n p m q. rightFrom n p m (rest q))
   parameters-right start end Parameters.broken rest = refl
   parameters-right start end (parameters ss next) rest =
       one-more-right (record { name = span start end; parameters = ss }) (rest next)

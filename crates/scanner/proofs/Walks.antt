@@ -21,7 +21,7 @@ use Rattle.scanner.specs.declared.sides.LeftRead.{LeftRead}
 use Rattle.scanner.specs.declared.sides.RightRead.{RightRead}
 use Rattle.scanner.specs.ModifierLists.{summed, listFrom, modifiersIn}
 use Rattle.scanner.specs.Spans.{countSpans, typeSpans, withListRead, listSpans, plainSpans, keyed, keysSpans, keySpans, spansFrom, spansAt, eventsIn}
-use Rattle.scanner.specs.Sides.{leftOf, parametersOf, mostOf, rightOf, callsIn}
+use Rattle.scanner.specs.Sides.{leftOf, parameterNumber, mostOf, rightOf, callsIn}
 use Rattle.scanner.proofs.Ranges.{cond-in, CallIn, call-in}
 use Rattle.scanner.proofs.Right.{ParametersIn, parameters-at-in}
 
@@ -101,7 +101,7 @@ left-broken EventsRead.broken e = refl
 left-broken (events es p) e = let z : _≡_ {A = ℕ} 0 1 = cc in absurd (omega arith)
 
 pub right-good : (r : CallsRead) (n p m : ℕ) → rightOf r ≡ RightRead.Right n p m
-    → (r ≡ calls (callsIn r)) × (length (callsIn r) ≡ n) × (inAll parametersOf (callsIn r) ≡ p) × (mostOf (callsIn r) ≡ m)
+    → (r ≡ calls (callsIn r)) × (length (callsIn r) ≡ n) × (inAll parameterNumber (callsIn r) ≡ p) × (mostOf (callsIn r) ≡ m)
 right-good CallsRead.broken n p m e = let z : _≡_ {A = ℕ} 0 1 = cc in absurd (omega arith)
 right-good (calls cs) n p m e = (refl, cc, cc, cc)
 
@@ -113,7 +113,7 @@ right-broken (calls cs) e = let z : _≡_ {A = ℕ} 0 1 = cc in absurd (omega ar
 
 abbrev pub CallsRange : ℕ → ℕ → CallsRead → Type 0
 CallsRange n at CallsRead.broken = Unit
-CallsRange n at (calls cs) = (at + length cs ≤ n) × (at + inAll parametersOf cs ≤ n)
+CallsRange n at (calls cs) = (at + length cs ≤ n) × (at + inAll parameterNumber cs ≤ n)
 
 one-more-range : (n at p : ℕ) (c : WrittenCall) (rest : CallsRead) → at + length (c .parameters) < p → CallsRange n p rest
     → CallsRange n at (oneMoreCall c rest)
@@ -146,7 +146,7 @@ abbrev pub RightIn : ℕ → RightRead → Type 0
 RightIn n RightRead.Broken = Unit
 RightIn n (RightRead.Right c p m) = (c ≤ n) × (p ≤ n) × (m ≤ p)
 
-most-le : (cs : List WrittenCall) → mostOf cs ≤ inAll parametersOf cs
+most-le : (cs : List WrittenCall) → mostOf cs ≤ inAll parameterNumber cs
 most-le [] = omega arith
 most-le (c ∷ cs) = let h = most-le cs in omega arith
 

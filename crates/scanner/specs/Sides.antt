@@ -37,9 +37,9 @@ openFrom l at = cond (signAt l at ")") (ParametersOpen.Empty (at + 1)) (Paramete
 unfoldable pub openAt : List ℕ → ℕ → ParametersOpen
 openAt l at = openFrom l (skip l at)
 
-abbrev pub counted : Parameters → ParametersRead
-counted Parameters.broken = ParametersRead.Broken
-counted (parameters ss next) = ParametersRead.Parameters (length ss) next
+abbrev pub parametersCounted : Parameters → ParametersRead
+parametersCounted Parameters.broken = ParametersRead.Broken
+parametersCounted (parameters ss next) = ParametersRead.Parameters (length ss) next
 
 -- ---- Calls
 
@@ -50,19 +50,19 @@ callCounted start end (ParametersRead.Parameters count next) = CallSpans.Call st
 abbrev pub callSpans : List ℕ → CallRead → CallSpans
 callSpans l CallRead.Broken = CallSpans.Broken
 callSpans l CallRead.End = CallSpans.End
-callSpans l (CallRead.Name start end) = callCounted start end (counted (parametersAt l (end + 1)))
+callSpans l (CallRead.Name start end) = callCounted start end (parametersCounted (parametersAt l (end + 1)))
 
-abbrev pub parametersOf : WrittenCall → ℕ
-parametersOf c = length (c .parameters)
+abbrev pub parameterNumber : WrittenCall → ℕ
+parameterNumber c = length (c .parameters)
 
 -- the largest number of parameters that one call has
 abbrev pub mostOf : List WrittenCall → ℕ
 mostOf [] = 0
-mostOf (c ∷ cs) = max (parametersOf c) (mostOf cs)
+mostOf (c ∷ cs) = max (parameterNumber c) (mostOf cs)
 
 abbrev pub rightOf : CallsRead → RightRead
 rightOf CallsRead.broken = RightRead.Broken
-rightOf (calls cs) = RightRead.Right (length cs) (inAll parametersOf cs) (mostOf cs)
+rightOf (calls cs) = RightRead.Right (length cs) (inAll parameterNumber cs) (mostOf cs)
 
 -- the calls that stand there, none where they are not in the grammar
 abbrev pub callsIn : CallsRead → List WrittenCall

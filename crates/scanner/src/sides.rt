@@ -14,7 +14,7 @@ ghost use Prim.Native.Nat.{_+_, _≤_, max};
 ghost use lib.ListN.{length};
 ghost use Rattle.model.specs.Events.{leftSide};
 ghost use Rattle.model.specs.Calls.{callAt, parametersFrom, parametersAt, rightSide};
-ghost use Rattle.scanner.specs.Sides.{eventStep, leftOf, openAt, counted, callSpans, rightOf};
+ghost use Rattle.scanner.specs.Sides.{eventStep, leftOf, openAt, parametersCounted, callSpans, rightOf};
 
 // What stands after the event, or the key sequence, at a position.
 pub fn event_step(l: &[u8], at: usize) -> AfterEvent
@@ -82,7 +82,7 @@ pub enum ParametersRead {
 // From the first of them on.
 pub fn count_parameters(l: &[u8], at: usize) -> ParametersRead
     requires { ⌜ at ≤ length (now l) ⌝ }
-    ensures { λ r. ⌜ r ≡ counted (parametersFrom (length (now (l .entry)) + 1) (now (l .entry)) at) ⌝ }
+    ensures { λ r. ⌜ r ≡ parametersCounted (parametersFrom (length (now (l .entry)) + 1) (now (l .entry)) at) ⌝ }
 {
     let mut i = at;
     let mut count: usize = 0;
@@ -114,7 +114,7 @@ pub fn count_parameters(l: &[u8], at: usize) -> ParametersRead
 // After the opening bracket.
 pub fn read_parameters(l: &[u8], at: usize) -> ParametersRead
     requires { ⌜ at ≤ length (now l) ⌝ }
-    ensures { λ r. ⌜ r ≡ counted (parametersAt (now (l .entry)) at) ⌝ }
+    ensures { λ r. ⌜ r ≡ parametersCounted (parametersAt (now (l .entry)) at) ⌝ }
 {
     match open_parameters(l, at) {
         ParametersOpen::Empty(next) => ParametersRead::Parameters { count: 0, next },

@@ -13,7 +13,7 @@ use Rattle.words.specs.Runs.{total, every}
 use Rattle.words.proofs.Bools.{and-left, and-right, chain-parts}
 use Rattle.words.proofs.RunLaws.{every-at, total-part}
 use Rattle.tables.specs.Layout.{productionEventsAt, productionCallsAt, codesAt, countsAt, setsAt, clearsAt, flagsAt, lowsAt, highsAt, marksAt, nameStartsAt, nameLengthsAt, callParametersAt, parameterStartsAt, parameterLengthsAt, tableLength}
-use Rattle.tables.specs.Checks.{textWordsOk, countWordsOk, headerOk, sumsOk, restZero, productionsRest, testsRest, detailsRest, callsRest, parametersRest, unusedOk, eventOk, callOk, callWordsOk, parametersOk, sizeAt, productionOk, entriesOk, checks, textOf}
+use Rattle.tables.specs.Checks.{textWordsOk, countWordsOk, headerOk, sumsOk, restZero, productionsRest, testsRest, detailsRest, callsRest, parametersRest, unusedOk, eventOk, callOk, callWordsOk, parametersOk, sizeAt, productionOk, entriesOk, checks, lengthOfText}
 
 cond-yes : (a b : Bool) → cond a b false ≡ true → (a ≡ true) × (b ≡ true)
 cond-yes true b e = (refl, e)
@@ -115,16 +115,16 @@ rest-facts l e =
 pub record CallWordFacts (l : List ℕ) (i : ℕ) : Type 0 where
   pub mark : wordAt l (marksAt + i) ≤ wordAt l 1
   pub parameters : wordAt l (callParametersAt + i) ≤ 8
-  pub name : wordAt l (nameStartsAt + i) + wordAt l (nameLengthsAt + i) ≤ textOf (wordAt l (marksAt + i)) (wordAt l 2) (wordAt l 3)
+  pub name : wordAt l (nameStartsAt + i) + wordAt l (nameLengthsAt + i) ≤ lengthOfText (wordAt l (marksAt + i)) (wordAt l 2) (wordAt l 3)
 
 pub call-word-facts : (l : List ℕ) (i : ℕ) → callOk l i ≡ true → CallWordFacts l i
 unfolding callOk callWordsOk
 call-word-facts l i e =
-    let r = chain-parts (leb (wordAt l (marksAt + i)) (wordAt l 1)) (leb (wordAt l (callParametersAt + i)) 8 ∷ leb (wordAt l (nameStartsAt + i) + wordAt l (nameLengthsAt + i)) (textOf (wordAt l (marksAt + i)) (wordAt l 2) (wordAt l 3)) ∷ []) e in
+    let r = chain-parts (leb (wordAt l (marksAt + i)) (wordAt l 1)) (leb (wordAt l (callParametersAt + i)) 8 ∷ leb (wordAt l (nameStartsAt + i) + wordAt l (nameLengthsAt + i)) (lengthOfText (wordAt l (marksAt + i)) (wordAt l 2) (wordAt l 3)) ∷ []) e in
     record {
       mark = leb-true (wordAt l (marksAt + i)) (wordAt l 1) (r .0);
       parameters = leb-true (wordAt l (callParametersAt + i)) 8 (r .1 .0);
-      name = leb-true (wordAt l (nameStartsAt + i) + wordAt l (nameLengthsAt + i)) (textOf (wordAt l (marksAt + i)) (wordAt l 2) (wordAt l 3)) (r .1 .1 .0);
+      name = leb-true (wordAt l (nameStartsAt + i) + wordAt l (nameLengthsAt + i)) (lengthOfText (wordAt l (marksAt + i)) (wordAt l 2) (wordAt l 3)) (r .1 .1 .0);
     }
 
 pub record ProductionWordFacts (l : List ℕ) (p : ℕ) : Type 0 where

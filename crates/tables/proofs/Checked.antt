@@ -19,10 +19,10 @@ use Rattle.model.specs.Tables.{Call, Production, Table}
 use Rattle.model.specs.declared.scan.Span.{Span}
 use Rattle.model.specs.declared.events.KeptEvent.{KeptEvent}
 use Rattle.model.specs.declared.events.Directive.{Directive}
-use Rattle.tables.specs.Layout.{flag, flagsWord, lowWord, highWord, markWord, directiveWord, eventsOf, callsOf, parametersOf, encode, tableLength}
+use Rattle.tables.specs.Layout.{flag, flagsWord, lowWord, highWord, markWord, directiveWord, allEvents, allCalls, allParameters, encode, tableLength}
 use Rattle.tables.specs.Layout.{productionEventsAt, productionCallsAt, codesAt, countsAt, setsAt, clearsAt, flagsAt, lowsAt, highsAt, marksAt, nameStartsAt, nameLengthsAt, callParametersAt, parameterStartsAt, parameterLengthsAt}
 use Rattle.tables.specs.Fitting.{eventInRange, spanInText, textLength, callInRange, hasEvent, fitting}
-use Rattle.tables.specs.Checks.{textWordsOk, countWordsOk, headerOk, sumsOk, restZero, productionsRest, testsRest, detailsRest, callsRest, parametersRest, unusedOk, eventOk, textOf, callWordsOk, callOk, parameterOk, parametersOk, sizeAt, productionOk, entriesOk, checks}
+use Rattle.tables.specs.Checks.{textWordsOk, countWordsOk, headerOk, sumsOk, restZero, productionsRest, testsRest, detailsRest, callsRest, parametersRest, unusedOk, eventOk, lengthOfText, callWordsOk, callOk, parameterOk, parametersOk, sizeAt, productionOk, entriesOk, checks}
 use Rattle.tables.proofs.Lists.{all-at, flat-at, length-flat, inAll-total, inAll-flat, inAll-le}
 use Rattle.tables.proofs.EventWords.{range-words}
 use Rattle.tables.proofs.Sizes.{eventSize, length-expanded}
@@ -50,8 +50,8 @@ mark-small true false e = omega arith
 mark-small false true e = absurd (false≢true e)
 mark-small false false e = omega arith
 
-text-of : (t : Table) (b : Bool) → textOf (flag 1 b) (t .firstLength) (t .secondLength) ≡ textLength t b
-unfolding textOf
+text-of : (t : Table) (b : Bool) → lengthOfText (flag 1 b) (t .firstLength) (t .secondLength) ≡ textLength t b
+unfolding lengthOfText
 text-of t true = refl
 text-of t false = refl
 
@@ -60,13 +60,13 @@ module _ (t : Table) (fit : fitting t ≡ true) (rest : List ℕ) where
   ps = t .productions
 
   abbrev es : List KeptEvent
-  es = eventsOf (t .productions)
+  es = allEvents (t .productions)
 
   abbrev cs : List Call
-  cs = callsOf (t .productions)
+  cs = allCalls (t .productions)
 
   abbrev rs : List Span
-  rs = parametersOf (callsOf (t .productions))
+  rs = allParameters (allCalls (t .productions))
 
   abbrev l : List ℕ
   l = encode t ++ rest
@@ -220,7 +220,7 @@ module _ (t : Table) (fit : fitting t ≡ true) (rest : List ℕ) where
   call-of : (i : ℕ) → i < length cs → CallFacts t (getD cs i noCall)
   call-of i h = call-facts t (getD cs i noCall) (all-at (callInRange t) cs i noCall (enc.fits t fit rest .calls) h)
 
-  text-at : (i : ℕ) → i < length cs → textOf (wordAt l (marksAt + i)) (wordAt l 2) (wordAt l 3) ≡ textLength t (getD cs i noCall .second)
+  text-at : (i : ℕ) → i < length cs → lengthOfText (wordAt l (marksAt + i)) (wordAt l 2) (wordAt l 3) ≡ textLength t (getD cs i noCall .second)
   text-at i h =
       rw (enc.mark-word t fit rest i (calls-below i h), enc.first-word t fit rest, enc.second-word t fit rest)
       (text-of t (getD cs i noCall .second))

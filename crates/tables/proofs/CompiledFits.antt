@@ -21,7 +21,7 @@ use Rattle.model.specs.declared.scan.Span.{Span}
 use Rattle.model.specs.declared.events.KeptEvent.{KeptEvent}
 use Rattle.model.specs.declared.events.Directive.{Directive}
 use Rattle.model.specs.declared.answers.Judged.{Judged}
-use Rattle.tables.specs.Layout.{flat, eventsOf, callsOf, encode}
+use Rattle.tables.specs.Layout.{flat, allEvents, allCalls, encode}
 use Rattle.tables.specs.Reading.{decode}
 use Rattle.tables.specs.Whole.{whole}
 use Rattle.tables.proofs.Theorems.{whole-encode, decode-encode}
@@ -121,8 +121,8 @@ line-good n base before line s h = events-line n base before line (leftSide line
 
 record Kept (n : ℕ) (ps : List Production) : Type 0 where
   pub some : all hasEvent ps ≡ true
-  pub events : all eventInRange (eventsOf ps) ≡ true
-  pub calls : all (callInRange (bare n)) (callsOf ps) ≡ true
+  pub events : all eventInRange (allEvents ps) ≡ true
+  pub calls : all (callInRange (bare n)) (allCalls ps) ≡ true
   pub limit : passesLimit ps ≡ false
 
 none-kept : (n : ℕ) → Kept n []
@@ -137,8 +137,8 @@ more-kept : (n : ℕ) (ps : List Production) (p : Production) → Kept n ps → 
 more-kept n ps p k g e =
     record {
       some = all-append hasEvent ps (p ∷ []) (k .some) (and-both (hasEvent p) true (g .some) refl);
-      events = rw (flat-append (λ (p : Production). p .events) ps (p ∷ []), one-flat (λ (p : Production). p .events) p) (all-append eventInRange (eventsOf ps) (p .events) (k .events) (g .events));
-      calls = rw (flat-append (λ (p : Production). p .calls) ps (p ∷ []), one-flat (λ (p : Production). p .calls) p) (all-append (callInRange (bare n)) (callsOf ps) (p .calls) (k .calls) (g .calls));
+      events = rw (flat-append (λ (p : Production). p .events) ps (p ∷ []), one-flat (λ (p : Production). p .events) p) (all-append eventInRange (allEvents ps) (p .events) (k .events) (g .events));
+      calls = rw (flat-append (λ (p : Production). p .calls) ps (p ∷ []), one-flat (λ (p : Production). p .calls) p) (all-append (callInRange (bare n)) (allCalls ps) (p .calls) (k .calls) (g .calls));
       limit = e;
     }
 

@@ -8,7 +8,7 @@ use mathlib.Core.Bool.{Bool, true, false, not, _||_}
 use lib.Dec.{leb, eqb}
 use lib.ListN.{length, getD, take}
 use borrow.Author.Tests.{le-leb, eqb-true}
-use Rattle.words.specs.Words.{wordAt, bytesOf, zeros}
+use Rattle.words.specs.Words.{wordAt, wordBytes, zeros}
 use Rattle.words.specs.Runs.{run, total, every, isZero}
 use Rattle.words.proofs.Images.{word-below, bytes-run}
 use Rattle.words.proofs.Laws.{length-zeros, getD-zeros}
@@ -19,18 +19,18 @@ use Rattle.model.specs.Compiling.{productionPasses, passesLimit}
 use Rattle.model.specs.Tables.{Call, Production, Table}
 use Rattle.model.specs.declared.scan.Span.{Span}
 use Rattle.model.specs.declared.events.KeptEvent.{KeptEvent}
-use Rattle.tables.specs.Layout.{flag, flagsWord, lowWord, highWord, markWord, directiveWord, eventsOf, callsOf, parametersOf, padded, joined, offset, capacities, headerOf, entriesOf, sectionsOf, image, encode, tableLength}
+use Rattle.tables.specs.Layout.{flag, flagsWord, lowWord, highWord, markWord, directiveWord, allEvents, allCalls, allParameters, padded, joinedSections, offset, capacities, headerOf, entriesOf, sectionsOf, image, encode, tableLength}
 use Rattle.tables.specs.Layout.{productionEventsAt, productionCallsAt, codesAt, countsAt, setsAt, clearsAt, flagsAt, lowsAt, highsAt, marksAt, nameStartsAt, nameLengthsAt, callParametersAt, parameterStartsAt, parameterLengthsAt}
-use Rattle.tables.specs.Reading.{directiveOf, directiveIn, mergedIn, firstLengthIn, secondLengthIn, productionCount, parameterAt, markAt, nameAt, callParameters, parametersFrom, callAt, eventAt, productionEvents, productionCalls, eventsFrom, callsFrom, productionAt, decode}
+use Rattle.tables.specs.Reading.{directiveFromWord, directiveIn, mergedIn, firstLengthIn, secondLengthIn, productionTotal, parameterEntry, markEntry, nameEntry, callParameters, firstParameter, callEntry, eventEntry, productionEvents, productionCalls, firstEvent, firstCall, productionEntry, decode}
 use Rattle.tables.specs.Fitting.{eventInRange, spanInText, callInRange, textsInRange, hasEvent, fitting}
-use Rattle.tables.specs.Checks.{restZero, eventOk, textOf, parameterOk, parametersOk, sizeAt}
+use Rattle.tables.specs.Checks.{restZero, eventOk, lengthOfText, parameterOk, parametersOk, sizeAt}
 use Rattle.tables.proofs.Lists.{all-run, flat-runs, length-flat, inAll-flat, inAll-le, inAll-run}
 use Rattle.tables.proofs.EventWords.{words-range, code-back, count-back, set-back, clear-back, flags-word-back, low-word-back, high-word-back}
 use Rattle.tables.proofs.Sizes.{eventSize, length-expanded}
 use Rattle.tables.proofs.Facts.{facts-fit, facts-text, facts-call, facts-production, facts-limit}
 use Rattle.tables.proofs.CheckFacts.{CheckFacts, HeaderFacts, RestFacts, CallWordFacts, events-within, calls-within}
 
-directive-back : (w : ℕ) → w ≤ 2 → directiveWord (directiveOf w) ≡ w
+directive-back : (w : ℕ) → w ≤ 2 → directiveWord (directiveFromWord w) ≡ w
 directive-back zero h = refl
 directive-back (suc zero) h = refl
 directive-back (suc (suc zero)) h = refl
@@ -85,8 +85,8 @@ module _ (l : List ℕ) where
     none : {s : ℕ} → Padded [] [] s
     more : {c n s : ℕ} {cs ns : List ℕ} → padded c (run (wordAt l) s n) ≡ run (wordAt l) s c → Padded cs ns (s + c) → Padded (c ∷ cs) (n ∷ ns) s
 
-  joined-runs : (cs ns : List ℕ) (s : ℕ) → Padded cs ns s → joined cs (runs cs ns s) ≡ run (wordAt l) s (offset cs (length cs))
-  unfolding joined run
+  joined-runs : (cs ns : List ℕ) (s : ℕ) → Padded cs ns s → joinedSections cs (runs cs ns s) ≡ run (wordAt l) s (offset cs (length cs))
+  unfolding joinedSections run
   joined-runs [] [] s none = refl
   joined-runs (c ∷ cs) (n ∷ ns) s (more e r) =
       rw (e, joined-runs cs ns (s + c) r) (sym (run-append (wordAt l) s c (offset cs (length cs))))
@@ -97,123 +97,123 @@ module _ (l : List ℕ) (bytes : (i : ℕ) → getD l i 0 < 256) (facts : CheckF
 
   -- ---- Entries in production order
 
-  pub events-flat : eventsOf (decode l .productions) ≡ run (eventAt l) 0 (wordAt l 5)
-  unfolding decode productionCount productionAt eventsFrom productionEvents
+  pub events-flat : allEvents (decode l .productions) ≡ run (eventEntry l) 0 (wordAt l 5)
+  unfolding decode productionTotal productionEntry firstEvent productionEvents
   events-flat =
-      flat-runs (λ (p : Production). p .events) (productionAt l) (eventAt l) (wordAt l) productionEventsAt (wordAt l 4) (λ p. refl)
-      ∙ ap (run (eventAt l) 0) (facts .sums .events)
+      flat-runs (λ (p : Production). p .events) (productionEntry l) (eventEntry l) (wordAt l) productionEventsAt (wordAt l 4) (λ p. refl)
+      ∙ ap (run (eventEntry l) 0) (facts .sums .events)
 
-  pub calls-flat : callsOf (decode l .productions) ≡ run (callAt l) 0 (wordAt l 6)
-  unfolding decode productionCount productionAt callsFrom productionCalls
+  pub calls-flat : allCalls (decode l .productions) ≡ run (callEntry l) 0 (wordAt l 6)
+  unfolding decode productionTotal productionEntry firstCall productionCalls
   calls-flat =
-      flat-runs (λ (p : Production). p .calls) (productionAt l) (callAt l) (wordAt l) productionCallsAt (wordAt l 4) (λ p. refl)
-      ∙ ap (run (callAt l) 0) (facts .sums .calls)
+      flat-runs (λ (p : Production). p .calls) (productionEntry l) (callEntry l) (wordAt l) productionCallsAt (wordAt l 4) (λ p. refl)
+      ∙ ap (run (callEntry l) 0) (facts .sums .calls)
 
-  parameters-flat : parametersOf (callsOf (decode l .productions)) ≡ run (parameterAt l) 0 (wordAt l 7)
-  unfolding callAt parametersFrom callParameters
+  parameters-flat : allParameters (allCalls (decode l .productions)) ≡ run (parameterEntry l) 0 (wordAt l 7)
+  unfolding callEntry firstParameter callParameters
   parameters-flat =
-      ap parametersOf calls-flat
-      ∙ flat-runs (λ (c : Call). c .parameters) (callAt l) (parameterAt l) (wordAt l) callParametersAt (wordAt l 6) (λ p. refl)
-      ∙ ap (run (parameterAt l) 0) (facts .sums .parameters)
+      ap allParameters calls-flat
+      ∙ flat-runs (λ (c : Call). c .parameters) (callEntry l) (parameterEntry l) (wordAt l) callParametersAt (wordAt l 6) (λ p. refl)
+      ∙ ap (run (parameterEntry l) 0) (facts .sums .parameters)
 
   -- ---- Their words
 
   production-events : map (λ (p : Production). length (p .events)) (decode l .productions) ≡ run (wordAt l) productionEventsAt (wordAt l 4)
-  unfolding decode productionCount productionAt productionEvents
+  unfolding decode productionTotal productionEntry productionEvents
   production-events =
-      section-run l (λ (p : Production). length (p .events)) (productionAt l) productionEventsAt (wordAt l 4)
-      (λ i h. length-run (eventAt l) (eventsFrom l i) (wordAt l (productionEventsAt + i)))
+      section-run l (λ (p : Production). length (p .events)) (productionEntry l) productionEventsAt (wordAt l 4)
+      (λ i h. length-run (eventEntry l) (firstEvent l i) (wordAt l (productionEventsAt + i)))
 
   production-calls : map (λ (p : Production). length (p .calls)) (decode l .productions) ≡ run (wordAt l) productionCallsAt (wordAt l 4)
-  unfolding decode productionCount productionAt productionCalls
+  unfolding decode productionTotal productionEntry productionCalls
   production-calls =
-      section-run l (λ (p : Production). length (p .calls)) (productionAt l) productionCallsAt (wordAt l 4)
-      (λ i h. length-run (callAt l) (callsFrom l i) (wordAt l (productionCallsAt + i)))
+      section-run l (λ (p : Production). length (p .calls)) (productionEntry l) productionCallsAt (wordAt l 4)
+      (λ i h. length-run (callEntry l) (firstCall l i) (wordAt l (productionCallsAt + i)))
 
-  codes : map (λ (e : KeptEvent). e .code) (eventsOf (decode l .productions)) ≡ run (wordAt l) codesAt (wordAt l 5)
-  unfolding eventAt eventOk
+  codes : map (λ (e : KeptEvent). e .code) (allEvents (decode l .productions)) ≡ run (wordAt l) codesAt (wordAt l 5)
+  unfolding eventEntry eventOk
   codes =
       ap (map (λ (e : KeptEvent). e .code)) events-flat
-      ∙ section-run l (λ (e : KeptEvent). e .code) (eventAt l) codesAt (wordAt l 5)
+      ∙ section-run l (λ (e : KeptEvent). e .code) (eventEntry l) codesAt (wordAt l 5)
       (λ i h. code-back (wordAt l (codesAt + i)) (wordAt l (countsAt + i)) (wordAt l (setsAt + i)) (wordAt l (clearsAt + i)) (wordAt l (flagsAt + i)) (wordAt l (lowsAt + i)) (wordAt l (highsAt + i)) (facts .events i h) (word-below l bytes (lowsAt + i)))
 
-  counts : map (λ (e : KeptEvent). e .count) (eventsOf (decode l .productions)) ≡ run (wordAt l) countsAt (wordAt l 5)
-  unfolding eventAt eventOk
+  counts : map (λ (e : KeptEvent). e .count) (allEvents (decode l .productions)) ≡ run (wordAt l) countsAt (wordAt l 5)
+  unfolding eventEntry eventOk
   counts =
       ap (map (λ (e : KeptEvent). e .count)) events-flat
-      ∙ section-run l (λ (e : KeptEvent). e .count) (eventAt l) countsAt (wordAt l 5)
+      ∙ section-run l (λ (e : KeptEvent). e .count) (eventEntry l) countsAt (wordAt l 5)
       (λ i h. count-back (wordAt l (codesAt + i)) (wordAt l (countsAt + i)) (wordAt l (setsAt + i)) (wordAt l (clearsAt + i)) (wordAt l (flagsAt + i)) (wordAt l (lowsAt + i)) (wordAt l (highsAt + i)) (facts .events i h) (word-below l bytes (lowsAt + i)))
 
-  sets : map (λ (e : KeptEvent). e .set) (eventsOf (decode l .productions)) ≡ run (wordAt l) setsAt (wordAt l 5)
-  unfolding eventAt eventOk
+  sets : map (λ (e : KeptEvent). e .set) (allEvents (decode l .productions)) ≡ run (wordAt l) setsAt (wordAt l 5)
+  unfolding eventEntry eventOk
   sets =
       ap (map (λ (e : KeptEvent). e .set)) events-flat
-      ∙ section-run l (λ (e : KeptEvent). e .set) (eventAt l) setsAt (wordAt l 5)
+      ∙ section-run l (λ (e : KeptEvent). e .set) (eventEntry l) setsAt (wordAt l 5)
       (λ i h. set-back (wordAt l (codesAt + i)) (wordAt l (countsAt + i)) (wordAt l (setsAt + i)) (wordAt l (clearsAt + i)) (wordAt l (flagsAt + i)) (wordAt l (lowsAt + i)) (wordAt l (highsAt + i)) (facts .events i h) (word-below l bytes (lowsAt + i)))
 
-  clears : map (λ (e : KeptEvent). e .clear) (eventsOf (decode l .productions)) ≡ run (wordAt l) clearsAt (wordAt l 5)
-  unfolding eventAt eventOk
+  clears : map (λ (e : KeptEvent). e .clear) (allEvents (decode l .productions)) ≡ run (wordAt l) clearsAt (wordAt l 5)
+  unfolding eventEntry eventOk
   clears =
       ap (map (λ (e : KeptEvent). e .clear)) events-flat
-      ∙ section-run l (λ (e : KeptEvent). e .clear) (eventAt l) clearsAt (wordAt l 5)
+      ∙ section-run l (λ (e : KeptEvent). e .clear) (eventEntry l) clearsAt (wordAt l 5)
       (λ i h. clear-back (wordAt l (codesAt + i)) (wordAt l (countsAt + i)) (wordAt l (setsAt + i)) (wordAt l (clearsAt + i)) (wordAt l (flagsAt + i)) (wordAt l (lowsAt + i)) (wordAt l (highsAt + i)) (facts .events i h) (word-below l bytes (lowsAt + i)))
 
-  flags : map flagsWord (eventsOf (decode l .productions)) ≡ run (wordAt l) flagsAt (wordAt l 5)
-  unfolding eventAt eventOk
+  flags : map flagsWord (allEvents (decode l .productions)) ≡ run (wordAt l) flagsAt (wordAt l 5)
+  unfolding eventEntry eventOk
   flags =
       ap (map flagsWord) events-flat
-      ∙ section-run l flagsWord (eventAt l) flagsAt (wordAt l 5)
+      ∙ section-run l flagsWord (eventEntry l) flagsAt (wordAt l 5)
       (λ i h. flags-word-back (wordAt l (codesAt + i)) (wordAt l (countsAt + i)) (wordAt l (setsAt + i)) (wordAt l (clearsAt + i)) (wordAt l (flagsAt + i)) (wordAt l (lowsAt + i)) (wordAt l (highsAt + i)) (facts .events i h) (word-below l bytes (lowsAt + i)))
 
-  lows : map lowWord (eventsOf (decode l .productions)) ≡ run (wordAt l) lowsAt (wordAt l 5)
-  unfolding eventAt eventOk
+  lows : map lowWord (allEvents (decode l .productions)) ≡ run (wordAt l) lowsAt (wordAt l 5)
+  unfolding eventEntry eventOk
   lows =
       ap (map lowWord) events-flat
-      ∙ section-run l lowWord (eventAt l) lowsAt (wordAt l 5)
+      ∙ section-run l lowWord (eventEntry l) lowsAt (wordAt l 5)
       (λ i h. low-word-back (wordAt l (codesAt + i)) (wordAt l (countsAt + i)) (wordAt l (setsAt + i)) (wordAt l (clearsAt + i)) (wordAt l (flagsAt + i)) (wordAt l (lowsAt + i)) (wordAt l (highsAt + i)) (facts .events i h) (word-below l bytes (lowsAt + i)))
 
-  highs : map highWord (eventsOf (decode l .productions)) ≡ run (wordAt l) highsAt (wordAt l 5)
-  unfolding eventAt eventOk
+  highs : map highWord (allEvents (decode l .productions)) ≡ run (wordAt l) highsAt (wordAt l 5)
+  unfolding eventEntry eventOk
   highs =
       ap (map highWord) events-flat
-      ∙ section-run l highWord (eventAt l) highsAt (wordAt l 5)
+      ∙ section-run l highWord (eventEntry l) highsAt (wordAt l 5)
       (λ i h. high-word-back (wordAt l (codesAt + i)) (wordAt l (countsAt + i)) (wordAt l (setsAt + i)) (wordAt l (clearsAt + i)) (wordAt l (flagsAt + i)) (wordAt l (lowsAt + i)) (wordAt l (highsAt + i)) (facts .events i h) (word-below l bytes (lowsAt + i)))
 
-  marks : map markWord (callsOf (decode l .productions)) ≡ run (wordAt l) marksAt (wordAt l 6)
-  unfolding callAt markAt
-  marks = ap (map markWord) calls-flat ∙ section-run l markWord (callAt l) marksAt (wordAt l 6) (λ i h. flag-back (wordAt l (marksAt + i)) (let m = facts .calls i h .mark in let b = facts .header .merged in omega arith))
+  marks : map markWord (allCalls (decode l .productions)) ≡ run (wordAt l) marksAt (wordAt l 6)
+  unfolding callEntry markEntry
+  marks = ap (map markWord) calls-flat ∙ section-run l markWord (callEntry l) marksAt (wordAt l 6) (λ i h. flag-back (wordAt l (marksAt + i)) (let m = facts .calls i h .mark in let b = facts .header .merged in omega arith))
 
-  name-starts : map (λ (c : Call). c .name .start) (callsOf (decode l .productions)) ≡ run (wordAt l) nameStartsAt (wordAt l 6)
-  unfolding callAt nameAt
-  name-starts = ap (map (λ (c : Call). c .name .start)) calls-flat ∙ section-run l (λ (c : Call). c .name .start) (callAt l) nameStartsAt (wordAt l 6) (λ i h. refl)
+  name-starts : map (λ (c : Call). c .name .start) (allCalls (decode l .productions)) ≡ run (wordAt l) nameStartsAt (wordAt l 6)
+  unfolding callEntry nameEntry
+  name-starts = ap (map (λ (c : Call). c .name .start)) calls-flat ∙ section-run l (λ (c : Call). c .name .start) (callEntry l) nameStartsAt (wordAt l 6) (λ i h. refl)
 
-  name-lengths : map (λ (c : Call). c .name .len) (callsOf (decode l .productions)) ≡ run (wordAt l) nameLengthsAt (wordAt l 6)
-  unfolding callAt nameAt
-  name-lengths = ap (map (λ (c : Call). c .name .len)) calls-flat ∙ section-run l (λ (c : Call). c .name .len) (callAt l) nameLengthsAt (wordAt l 6) (λ i h. refl)
+  name-lengths : map (λ (c : Call). c .name .len) (allCalls (decode l .productions)) ≡ run (wordAt l) nameLengthsAt (wordAt l 6)
+  unfolding callEntry nameEntry
+  name-lengths = ap (map (λ (c : Call). c .name .len)) calls-flat ∙ section-run l (λ (c : Call). c .name .len) (callEntry l) nameLengthsAt (wordAt l 6) (λ i h. refl)
 
-  call-parameters : map (λ (c : Call). length (c .parameters)) (callsOf (decode l .productions)) ≡ run (wordAt l) callParametersAt (wordAt l 6)
-  unfolding callAt callParameters
-  call-parameters = ap (map (λ (c : Call). length (c .parameters))) calls-flat ∙ section-run l (λ (c : Call). length (c .parameters)) (callAt l) callParametersAt (wordAt l 6) (λ i h. length-run (parameterAt l) (parametersFrom l i) (wordAt l (callParametersAt + i)))
+  call-parameters : map (λ (c : Call). length (c .parameters)) (allCalls (decode l .productions)) ≡ run (wordAt l) callParametersAt (wordAt l 6)
+  unfolding callEntry callParameters
+  call-parameters = ap (map (λ (c : Call). length (c .parameters))) calls-flat ∙ section-run l (λ (c : Call). length (c .parameters)) (callEntry l) callParametersAt (wordAt l 6) (λ i h. length-run (parameterEntry l) (firstParameter l i) (wordAt l (callParametersAt + i)))
 
-  parameter-starts : map (λ (s : Span). s .start) (parametersOf (callsOf (decode l .productions))) ≡ run (wordAt l) parameterStartsAt (wordAt l 7)
-  unfolding parameterAt
-  parameter-starts = ap (map (λ (s : Span). s .start)) parameters-flat ∙ section-run l (λ (s : Span). s .start) (parameterAt l) parameterStartsAt (wordAt l 7) (λ i h. refl)
+  parameter-starts : map (λ (s : Span). s .start) (allParameters (allCalls (decode l .productions))) ≡ run (wordAt l) parameterStartsAt (wordAt l 7)
+  unfolding parameterEntry
+  parameter-starts = ap (map (λ (s : Span). s .start)) parameters-flat ∙ section-run l (λ (s : Span). s .start) (parameterEntry l) parameterStartsAt (wordAt l 7) (λ i h. refl)
 
-  parameter-lengths : map (λ (s : Span). s .len) (parametersOf (callsOf (decode l .productions))) ≡ run (wordAt l) parameterLengthsAt (wordAt l 7)
-  unfolding parameterAt
-  parameter-lengths = ap (map (λ (s : Span). s .len)) parameters-flat ∙ section-run l (λ (s : Span). s .len) (parameterAt l) parameterLengthsAt (wordAt l 7) (λ i h. refl)
+  parameter-lengths : map (λ (s : Span). s .len) (allParameters (allCalls (decode l .productions))) ≡ run (wordAt l) parameterLengthsAt (wordAt l 7)
+  unfolding parameterEntry
+  parameter-lengths = ap (map (λ (s : Span). s .len)) parameters-flat ∙ section-run l (λ (s : Span). s .len) (parameterEntry l) parameterLengthsAt (wordAt l 7) (λ i h. refl)
 
   header-run : headerOf (decode l) ≡ run (wordAt l) 0 8
-  unfolding headerOf decode directiveIn mergedIn firstLengthIn secondLengthIn productionCount run
+  unfolding headerOf decode directiveIn mergedIn firstLengthIn secondLengthIn productionTotal run
   header-run =
       consed (directive-back (wordAt l 0) (facts .header .directive))
       (consed (flag-back (wordAt l 1) (facts .header .merged))
       (consed refl
       (consed refl
-      (consed (length-run (productionAt l) 0 (wordAt l 4))
-      (consed (ap length events-flat ∙ length-run (eventAt l) 0 (wordAt l 5))
-      (consed (ap length calls-flat ∙ length-run (callAt l) 0 (wordAt l 6))
-      (consed (ap length parameters-flat ∙ length-run (parameterAt l) 0 (wordAt l 7)) refl)))))))
+      (consed (length-run (productionEntry l) 0 (wordAt l 4))
+      (consed (ap length events-flat ∙ length-run (eventEntry l) 0 (wordAt l 5))
+      (consed (ap length calls-flat ∙ length-run (callEntry l) 0 (wordAt l 6))
+      (consed (ap length parameters-flat ∙ length-run (parameterEntry l) 0 (wordAt l 7)) refl)))))))
 
   abbrev used : List ℕ
   used =
@@ -274,7 +274,7 @@ module _ (l : List ℕ) (bytes : (i : ℕ) → getD l i 0 < 256) (facts : CheckF
   unfolding encode image
   bytes-same =
       bytes-run l 0 2952 bytes (facts .long)
-      ∙ sym (ap (λ (ss : List (List ℕ)). bytesOf (joined capacities ss)) sections-runs ∙ ap bytesOf (joined-runs l capacities used 0 rests-padded))
+      ∙ sym (ap (λ (ss : List (List ℕ)). wordBytes (joinedSections capacities ss)) sections-runs ∙ ap wordBytes (joined-runs l capacities used 0 rests-padded))
 
   -- ---- The table fits
 
@@ -289,77 +289,77 @@ module _ (l : List ℕ) (bytes : (i : ℕ) → getD l i 0 < 256) (facts : CheckF
       })
 
   has-events : all hasEvent (decode l .productions) ≡ true
-  unfolding decode productionCount productionAt productionEvents
+  unfolding decode productionTotal productionEntry productionEvents
   has-events =
-      all-run hasEvent (productionAt l) 0 (wordAt l 4)
-      (λ i h. rw (zero-add, length-run (eventAt l) (eventsFrom l i) (wordAt l (productionEventsAt + i)))
+      all-run hasEvent (productionEntry l) 0 (wordAt l 4)
+      (λ i h. rw (zero-add, length-run (eventEntry l) (firstEvent l i) (wordAt l (productionEventsAt + i)))
       (le-leb 1 (wordAt l (productionEventsAt + i)) (facts .productions i h .events)))
 
-  pub event-range : (i : ℕ) → i < wordAt l 5 → eventInRange (eventAt l i) ≡ true
-  unfolding eventAt eventOk
+  pub event-range : (i : ℕ) → i < wordAt l 5 → eventInRange (eventEntry l i) ≡ true
+  unfolding eventEntry eventOk
   event-range i h = words-range (wordAt l (codesAt + i)) (wordAt l (countsAt + i)) (wordAt l (setsAt + i)) (wordAt l (clearsAt + i)) (wordAt l (flagsAt + i)) (wordAt l (lowsAt + i)) (wordAt l (highsAt + i)) (facts .events i h) (word-below l bytes (lowsAt + i))
 
-  event-size : (i : ℕ) → i < wordAt l 5 → eventSize (eventAt l i) ≡ sizeAt l i
-  unfolding eventAt eventOk sizeAt
+  event-size : (i : ℕ) → i < wordAt l 5 → eventSize (eventEntry l i) ≡ sizeAt l i
+  unfolding eventEntry eventOk sizeAt
   event-size i h =
       rw (code-back (wordAt l (codesAt + i)) (wordAt l (countsAt + i)) (wordAt l (setsAt + i)) (wordAt l (clearsAt + i)) (wordAt l (flagsAt + i)) (wordAt l (lowsAt + i)) (wordAt l (highsAt + i)) (facts .events i h) (word-below l bytes (lowsAt + i)), count-back (wordAt l (codesAt + i)) (wordAt l (countsAt + i)) (wordAt l (setsAt + i)) (wordAt l (clearsAt + i)) (wordAt l (flagsAt + i)) (wordAt l (lowsAt + i)) (wordAt l (highsAt + i)) (facts .events i h) (word-below l bytes (lowsAt + i)))
 
-  events-fit : all eventInRange (eventsOf (decode l .productions)) ≡ true
-  events-fit = rw events-flat (all-run eventInRange (eventAt l) 0 (wordAt l 5) (λ i h. rw zero-add (event-range i h)))
+  events-fit : all eventInRange (allEvents (decode l .productions)) ≡ true
+  events-fit = rw events-flat (all-run eventInRange (eventEntry l) 0 (wordAt l 5) (λ i h. rw zero-add (event-range i h)))
 
   parameter-fits : (i k : ℕ) → i < wordAt l 6 → k < callParameters l i
-      → spanInText (textOf (wordAt l (marksAt + i)) (wordAt l 2) (wordAt l 3)) (parameterAt l (parametersFrom l i + k)) ≡ true
-  unfolding spanInText parameterAt callParameters parametersFrom parametersOk parameterOk
+      → spanInText (lengthOfText (wordAt l (marksAt + i)) (wordAt l 2) (wordAt l 3)) (parameterEntry l (firstParameter l i + k)) ≡ true
+  unfolding spanInText parameterEntry callParameters firstParameter parametersOk parameterOk
   parameter-fits i k h q =
-      every-at (parameterOk l (textOf (wordAt l (marksAt + i)) (wordAt l 2) (wordAt l 3))) (total (wordAt l) callParametersAt i) (wordAt l (callParametersAt + i)) k (facts .parameters i h) q
+      every-at (parameterOk l (lengthOfText (wordAt l (marksAt + i)) (wordAt l 2) (wordAt l 3))) (total (wordAt l) callParametersAt i) (wordAt l (callParametersAt + i)) k (facts .parameters i h) q
 
-  call-fits : (i : ℕ) → i < wordAt l 6 → callInRange (decode l) (callAt l i) ≡ true
-  unfolding callAt nameAt markAt decode mergedIn firstLengthIn secondLengthIn textOf
+  call-fits : (i : ℕ) → i < wordAt l 6 → callInRange (decode l) (callEntry l i) ≡ true
+  unfolding callEntry nameEntry markEntry decode mergedIn firstLengthIn secondLengthIn lengthOfText
   call-fits i h =
       let w : CallWordFacts l i = facts .calls i h in
-      facts-call (decode l) (callAt l i)
+      facts-call (decode l) (callEntry l i)
       (record {
         mark = mark-allowed (wordAt l (marksAt + i)) (wordAt l 1) (w .mark) (facts .header .merged);
         name = w .name;
-        parameters = all-run (spanInText (textOf (wordAt l (marksAt + i)) (wordAt l 2) (wordAt l 3))) (parameterAt l) (parametersFrom l i) (callParameters l i) (λ k q. parameter-fits i k h q);
+        parameters = all-run (spanInText (lengthOfText (wordAt l (marksAt + i)) (wordAt l 2) (wordAt l 3))) (parameterEntry l) (firstParameter l i) (callParameters l i) (λ k q. parameter-fits i k h q);
       })
 
-  calls-fit : all (callInRange (decode l)) (callsOf (decode l .productions)) ≡ true
-  calls-fit = rw calls-flat (all-run (callInRange (decode l)) (callAt l) 0 (wordAt l 6) (λ i h. rw zero-add (call-fits i h)))
+  calls-fit : all (callInRange (decode l)) (allCalls (decode l .productions)) ≡ true
+  calls-fit = rw calls-flat (all-run (callInRange (decode l)) (callEntry l) 0 (wordAt l 6) (λ i h. rw zero-add (call-fits i h)))
 
   -- ---- Limits
 
-  pub production-size : (p : ℕ) → p < wordAt l 4 → length (sequence (productionAt l p)) ≤ 24
-  unfolding sequence productionAt eventsFrom productionEvents
+  pub production-size : (p : ℕ) → p < wordAt l 4 → length (sequence (productionEntry l p)) ≤ 24
+  unfolding sequence productionEntry firstEvent productionEvents
   production-size p h =
       let from : ℕ = total (wordAt l) productionEventsAt p in
       let n : ℕ = wordAt l (productionEventsAt + p) in
-      let a = length-expanded (run (eventAt l) (total (wordAt l) productionEventsAt p) (wordAt l (productionEventsAt + p))) in
-      let b = inAll-run eventSize (eventAt l) (total (wordAt l) productionEventsAt p) (wordAt l (productionEventsAt + p)) in
-      let c = total-same (λ i. eventSize (eventAt l i)) (sizeAt l) (total (wordAt l) productionEventsAt p) (total (wordAt l) productionEventsAt p) (wordAt l (productionEventsAt + p))
+      let a = length-expanded (run (eventEntry l) (total (wordAt l) productionEventsAt p) (wordAt l (productionEventsAt + p))) in
+      let b = inAll-run eventSize (eventEntry l) (total (wordAt l) productionEventsAt p) (wordAt l (productionEventsAt + p)) in
+      let c = total-same (λ i. eventSize (eventEntry l i)) (sizeAt l) (total (wordAt l) productionEventsAt p) (total (wordAt l) productionEventsAt p) (wordAt l (productionEventsAt + p))
       (λ k q. event-size (total (wordAt l) productionEventsAt p + k) (let w = events-within l (facts .sums) p h in omega arith)) in
       let d = facts .productions p h .size in
       omega (arith, a, b, c, d)
 
-  few : (i : ℕ) → i < wordAt l 6 → leb (length (callAt l i .parameters)) 8 ≡ true
-  unfolding callAt callParameters
+  few : (i : ℕ) → i < wordAt l 6 → leb (length (callEntry l i .parameters)) 8 ≡ true
+  unfolding callEntry callParameters
   few i q =
-      rw (length-run (parameterAt l) (parametersFrom l i) (wordAt l (callParametersAt + i)))
+      rw (length-run (parameterEntry l) (firstParameter l i) (wordAt l (callParametersAt + i)))
       (le-leb (wordAt l (callParametersAt + i)) 8 (facts .calls i q .parameters))
 
-  few-calls : (p : ℕ) → p < wordAt l 4 → length (productionAt l p .calls) ≤ 8
-  unfolding productionAt productionCalls
-  few-calls p h = let e = length-run (callAt l) (callsFrom l p) (wordAt l (productionCallsAt + p)) in let b = facts .productions p h .calls in omega arith
+  few-calls : (p : ℕ) → p < wordAt l 4 → length (productionEntry l p .calls) ≤ 8
+  unfolding productionEntry productionCalls
+  few-calls p h = let e = length-run (callEntry l) (firstCall l p) (wordAt l (productionCallsAt + p)) in let b = facts .productions p h .calls in omega arith
 
-  few-parameters : (p : ℕ) → p < wordAt l 4 → all (λ (c : Call). leb (length (c .parameters)) 8) (productionAt l p .calls) ≡ true
-  unfolding productionAt callsFrom productionCalls
+  few-parameters : (p : ℕ) → p < wordAt l 4 → all (λ (c : Call). leb (length (c .parameters)) 8) (productionEntry l p .calls) ≡ true
+  unfolding productionEntry firstCall productionCalls
   few-parameters p h =
-      all-run (λ (c : Call). leb (length (c .parameters)) 8) (callAt l) (total (wordAt l) productionCallsAt p) (wordAt l (productionCallsAt + p))
+      all-run (λ (c : Call). leb (length (c .parameters)) 8) (callEntry l) (total (wordAt l) productionCallsAt p) (wordAt l (productionCallsAt + p))
       (λ k q. few (total (wordAt l) productionCallsAt p + k) (let w = calls-within l (facts .sums) p h in omega arith))
 
-  production-fits : (p : ℕ) → p < wordAt l 4 → productionPasses (productionAt l p) ≡ false
+  production-fits : (p : ℕ) → p < wordAt l 4 → productionPasses (productionEntry l p) ≡ false
   production-fits p h =
-      facts-production (productionAt l p)
+      facts-production (productionEntry l p)
       (record { size = production-size p h; calls = few-calls p h; parameters = few-parameters p h })
 
   sizes-in-all : inAll (λ (p : Production). length (sequence p)) (decode l .productions) ≤ 256
@@ -368,17 +368,17 @@ module _ (l : List ℕ) (bytes : (i : ℕ) → getD l i 0 < 256) (facts : CheckF
       let a = inAll-le (λ (p : Production). length (sequence p)) (λ (p : Production). inAll eventSize (p .events)) (decode l .productions) (λ p. let e = length-expanded (p .events) in omega arith) in
       let b = inAll-flat eventSize (λ (p : Production). p .events) (decode l .productions) in
       let c = ap (inAll eventSize) events-flat in
-      let d = inAll-run eventSize (eventAt l) 0 (wordAt l 5) in
-      let e = total-same (λ i. eventSize (eventAt l i)) (sizeAt l) 0 0 (wordAt l 5) (λ k q. rw zero-add (event-size k q)) in
+      let d = inAll-run eventSize (eventEntry l) 0 (wordAt l 5) in
+      let e = total-same (λ i. eventSize (eventEntry l i)) (sizeAt l) 0 0 (wordAt l 5) (λ k q. rw zero-add (event-size k q)) in
       omega (arith, a, b, c, d, e, facts .sizes)
 
   each-fits : all (λ (p : Production). not (productionPasses p)) (decode l .productions) ≡ true
-  unfolding decode productionCount
-  each-fits = all-run (λ (p : Production). not (productionPasses p)) (productionAt l) 0 (wordAt l 4) (λ i h. rw (zero-add, production-fits i h))
+  unfolding decode productionTotal
+  each-fits = all-run (λ (p : Production). not (productionPasses p)) (productionEntry l) 0 (wordAt l 4) (λ i h. rw (zero-add, production-fits i h))
 
   count-productions : length (decode l .productions) ≡ wordAt l 4
-  unfolding decode productionCount
-  count-productions = length-run (productionAt l) 0 (wordAt l 4)
+  unfolding decode productionTotal
+  count-productions = length-run (productionEntry l) 0 (wordAt l 4)
 
   limit-fits : passesLimit (decode l .productions) ≡ false
   limit-fits =
@@ -389,13 +389,13 @@ module _ (l : List ℕ) (bytes : (i : ℕ) → getD l i 0 < 256) (facts : CheckF
         events = sizes-in-all;
         calls =
             let a = length-flat (λ (p : Production). p .calls) (decode l .productions) in
-            let b = ap length calls-flat ∙ length-run (callAt l) 0 (wordAt l 6) in
+            let b = ap length calls-flat ∙ length-run (callEntry l) 0 (wordAt l 6) in
             let c = facts .header .calls in
             omega arith;
         parameters =
             let a = inAll-flat (λ (c : Call). length (c .parameters)) (λ (p : Production). p .calls) (decode l .productions) in
-            let b = length-flat (λ (c : Call). c .parameters) (callsOf (decode l .productions)) in
-            let c = ap length parameters-flat ∙ length-run (parameterAt l) 0 (wordAt l 7) in
+            let b = length-flat (λ (c : Call). c .parameters) (allCalls (decode l .productions)) in
+            let c = ap length parameters-flat ∙ length-run (parameterEntry l) 0 (wordAt l 7) in
             let d = facts .header .parameters in
             omega arith;
       })

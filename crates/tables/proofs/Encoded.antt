@@ -18,9 +18,9 @@ use Rattle.model.specs.declared.scan.Span.{Span}
 use Rattle.model.specs.declared.events.Detail.{Detail}
 use Rattle.model.specs.declared.events.KeptEvent.{KeptEvent}
 use Rattle.model.specs.declared.events.Directive.{Directive}
-use Rattle.tables.specs.Layout.{flag, isGiven, valueOf, flagsWord, lowWord, highWord, markWord, directiveWord, eventsOf, callsOf, parametersOf, headerOf, entriesOf, sectionsOf, offset, capacities, encode}
+use Rattle.tables.specs.Layout.{flag, isGiven, valueOf, flagsWord, lowWord, highWord, markWord, directiveWord, allEvents, allCalls, allParameters, headerOf, entriesOf, sectionsOf, offset, capacities, encode}
 use Rattle.tables.specs.Layout.{productionEventsAt, productionCallsAt, codesAt, countsAt, setsAt, clearsAt, flagsAt, lowsAt, highsAt, marksAt, nameStartsAt, nameLengthsAt, callParametersAt, parameterStartsAt, parameterLengthsAt}
-use Rattle.tables.specs.Reading.{directiveOf, directiveIn, mergedIn, firstLengthIn, secondLengthIn, productionCount, parameterAt, markAt, nameAt, callParameters, parametersFrom, callAt, eventAt, productionEvents, productionCalls, eventsFrom, callsFrom, productionAt, decode}
+use Rattle.tables.specs.Reading.{directiveFromWord, directiveIn, mergedIn, firstLengthIn, secondLengthIn, productionTotal, parameterEntry, markEntry, nameEntry, callParameters, firstParameter, callEntry, eventEntry, productionEvents, productionCalls, firstEvent, firstCall, productionEntry, decode}
 use Rattle.tables.specs.Fitting.{eventInRange, fitting}
 use Rattle.tables.proofs.Lists.{each-getD, nested}
 use Rattle.tables.proofs.EventWords.{RangeFacts, range-facts, flags-below, event-back}
@@ -68,7 +68,7 @@ directive-small Directive.Replace = omega arith
 directive-small Directive.Override = omega arith
 directive-small Directive.Augment = omega arith
 
-directive-back : (d : Directive) → directiveOf (directiveWord d) ≡ d
+directive-back : (d : Directive) → directiveFromWord (directiveWord d) ≡ d
 directive-back Directive.Replace = refl
 directive-back Directive.Override = refl
 directive-back Directive.Augment = refl
@@ -86,13 +86,13 @@ module _ (t : Table) (fit : fitting t ≡ true) (rest : List ℕ) where
   ps = t .productions
 
   abbrev es : List KeptEvent
-  es = eventsOf (t .productions)
+  es = allEvents (t .productions)
 
   abbrev cs : List Call
-  cs = callsOf (t .productions)
+  cs = allCalls (t .productions)
 
   abbrev rs : List Span
-  rs = parametersOf (callsOf (t .productions))
+  rs = allParameters (allCalls (t .productions))
 
   abbrev l : List ℕ
   l = encode t ++ rest
@@ -170,8 +170,8 @@ module _ (t : Table) (fit : fitting t ≡ true) (rest : List ℕ) where
       let m : getD (map (λ x. highWord x) es) i 0 ≡ highWord (getD es i noEvent) = List·getD-map (λ x. highWord x) es i noEvent in
       word 9 i h (rw m (let b = small i .value in omega arith)) ∙ m
 
-  event-read : (i : ℕ) → i < 256 → eventAt l i ≡ getD es i noEvent
-  unfolding eventAt
+  event-read : (i : ℕ) → i < 256 → eventEntry l i ≡ getD es i noEvent
+  unfolding eventEntry
   event-read i h =
       rw (code-word i h, count-word i h, set-word i h, clear-word i h, flags-word i h, low-word i h, high-word i h)
       (event-back (getD es i noEvent) (small i .code) (small i .count))
@@ -194,8 +194,8 @@ module _ (t : Table) (fit : fitting t ≡ true) (rest : List ℕ) where
       let m : getD (map (λ (x : Span). x .len) rs) i 0 ≡ (getD rs i noSpan) .len = List·getD-map (λ (x : Span). x .len) rs i noSpan in
       word 15 i h (rw m (let b = short-parameter i in omega arith)) ∙ m
 
-  parameter-read : (i : ℕ) → i < 256 → parameterAt l i ≡ getD rs i noSpan
-  unfolding parameterAt
+  parameter-read : (i : ℕ) → i < 256 → parameterEntry l i ≡ getD rs i noSpan
+  unfolding parameterEntry
   parameter-read i h = rw (parameter-start-word i h, parameter-length-word i h)
 
   -- ---- Calls
@@ -237,8 +237,8 @@ module _ (t : Table) (fit : fitting t ≡ true) (rest : List ℕ) where
       total-same (wordAt l) (λ q. length (getD cs q noCall .parameters)) callParametersAt 0 i
       (λ k q. rw zero-add (call-parameters-word k (omega (arith, room .calls, calls-in-all ps limits))))
 
-  call-read : (i : ℕ) → i < length cs → callAt l i ≡ getD cs i noCall
-  unfolding callAt markAt nameAt parametersFrom callParameters
+  call-read : (i : ℕ) → i < length cs → callEntry l i ≡ getD cs i noCall
+  unfolding callEntry markEntry nameEntry firstParameter callParameters
   call-read i h =
       let b : i < 128 = omega (arith, calls-in-all ps limits) in
       let q : i ≤ length cs = omega arith in
@@ -249,7 +249,7 @@ module _ (t : Table) (fit : fitting t ≡ true) (rest : List ℕ) where
         call-parameters-word i b,
         parameters-total i q,
         mark-back (getD cs i noCall .second),
-        nested (λ (c : Call). c .parameters) cs noCall noSpan (parameterAt l) i h
+        nested (λ (c : Call). c .parameters) cs noCall noSpan (parameterEntry l) i h
             (λ k p. parameter-read k (omega (arith, parameters-in-all ps limits))),
       )
 
@@ -284,8 +284,8 @@ module _ (t : Table) (fit : fitting t ≡ true) (rest : List ℕ) where
       total-same (wordAt l) (λ q. length (getD ps q noProduction .calls)) productionCallsAt 0 i
       (λ k q. rw zero-add (production-calls-word k (omega (arith, limits .productions))))
 
-  production-read : (i : ℕ) → i < length ps → productionAt l i ≡ getD ps i noProduction
-  unfolding productionAt eventsFrom productionEvents callsFrom productionCalls
+  production-read : (i : ℕ) → i < length ps → productionEntry l i ≡ getD ps i noProduction
+  unfolding productionEntry firstEvent productionEvents firstCall productionCalls
   production-read i h =
       let b : i < 64 = omega (arith, limits .productions) in
       let q : i ≤ length ps = omega arith in
@@ -294,9 +294,9 @@ module _ (t : Table) (fit : fitting t ≡ true) (rest : List ℕ) where
         production-calls-word i b,
         events-total i q,
         calls-total i q,
-        nested (λ (p : Production). p .events) ps noProduction noEvent (eventAt l) i h
+        nested (λ (p : Production). p .events) ps noProduction noEvent (eventEntry l) i h
             (λ k p. event-read k (omega (arith, events-in-all ps limits))),
-        nested (λ (p : Production). p .calls) ps noProduction noCall (callAt l) i h (λ k p. call-read k p),
+        nested (λ (p : Production). p .calls) ps noProduction noCall (callEntry l) i h (λ k p. call-read k p),
       )
 
   -- ---- The header
@@ -341,7 +341,7 @@ module _ (t : Table) (fit : fitting t ≡ true) (rest : List ℕ) where
 
   -- a table that fits is read back from its bytes, whatever stands past them
   pub decode-encode : decode (encode t ++ rest) ≡ t
-  unfolding decode directiveIn mergedIn firstLengthIn secondLengthIn productionCount
+  unfolding decode directiveIn mergedIn firstLengthIn secondLengthIn productionTotal
   decode-encode =
       rw (
         directive-word,
@@ -351,5 +351,5 @@ module _ (t : Table) (fit : fitting t ≡ true) (rest : List ℕ) where
         productions-word,
         directive-back (t .directive),
         mark-back (t .merged),
-        run-list (productionAt l) 0 (length ps) ps noProduction refl (λ i h. rw zero-add (production-read i h)),
+        run-list (productionEntry l) 0 (length ps) ps noProduction refl (λ i h. rw zero-add (production-read i h)),
       )

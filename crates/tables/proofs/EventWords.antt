@@ -11,7 +11,7 @@ use Rattle.words.proofs.Bools.{and-left, and-right, and-both, chain-parts, chai
 use Rattle.model.specs.declared.events.Detail.{Detail}
 use Rattle.model.specs.declared.events.KeptEvent.{KeptEvent}
 use Rattle.tables.specs.Layout.{flag, isGiven, valueOf, flagsWord, lowWord, highWord}
-use Rattle.tables.specs.Reading.{isFlag, detailOf, eventOf}
+use Rattle.tables.specs.Reading.{isFlag, detailFromWord, eventFromWords}
 use Rattle.tables.specs.Fitting.{eventInRange}
 use Rattle.tables.specs.Checks.{eventWordsOk}
 
@@ -56,14 +56,14 @@ flags-below false true false = omega arith
 flags-below false false true = omega arith
 flags-below false false false = omega arith
 
-detail-back : (d : Detail) → detailOf (isGiven d) (valueOf d % 65536 + 65536 * (valueOf d / 65536)) ≡ d
+detail-back : (d : Detail) → detailFromWord (isGiven d) (valueOf d % 65536 + 65536 * (valueOf d / 65536)) ≡ d
 detail-back Detail.Unspecified = refl
 detail-back (Detail.Value v) = ap Detail.Value (mod-add-div v 65536)
 
 -- an event's words read as the event
 pub event-back : (e : KeptEvent) → e .code < 256 → e .count < 256
-    → eventOf (e .code) (e .count) (e .set) (e .clear) (flagsWord e) (lowWord e) (highWord e) ≡ e
-unfolding eventOf
+    → eventFromWords (e .code) (e .count) (e .set) (e .clear) (flagsWord e) (lowWord e) (highWord e) ≡ e
+unfolding eventFromWords
 event-back e p q =
     let c : e .code % 256 ≡ e .code = mod-eq-of-lt p in
     let n : e .count % 256 ≡ e .count = mod-eq-of-lt q in
@@ -259,11 +259,11 @@ counted-range c n l e =
     or-cases (leb n 1) (leb c 5) e (or-left (leb n 1) (leb 2 c && leb c 5))
     (λ h. or-right (leb n 1) (leb 2 c && leb c 5) (and-both (leb 2 c) (leb c 5) (le-leb 2 c l) h))
 
-value-below : (g : Bool) (lo hi : ℕ) → lo < 65536 → hi < 8192 → valueOf (detailOf g (lo + 65536 * hi)) ≤ 0x1FFFFFFF
+value-below : (g : Bool) (lo hi : ℕ) → lo < 65536 → hi < 8192 → valueOf (detailFromWord g (lo + 65536 * hi)) ≤ 0x1FFFFFFF
 value-below true lo hi p q = omega arith
 value-below false lo hi p q = omega arith
 
-given-back : (g : Bool) (v : ℕ) → isGiven (detailOf g v) ≡ g
+given-back : (g : Bool) (v : ℕ) → isGiven (detailFromWord g v) ≡ g
 given-back true v = refl
 given-back false v = refl
 
@@ -280,7 +280,7 @@ flags-back (suc (suc (suc (suc (suc (suc (suc (suc n)))))))) h = absurd (omega a
 
 -- the value that is kept of a detail's words: 0 where none is given, and the words are 0 there
 value-back : (f lo hi : ℕ) → f < 8 → (leb 4 f || (eqb lo 0 && eqb hi 0)) ≡ true
-    → valueOf (detailOf (isFlag 4 f) (lo + 65536 * hi)) ≡ lo + 65536 * hi
+    → valueOf (detailFromWord (isFlag 4 f) (lo + 65536 * hi)) ≡ lo + 65536 * hi
 value-back f lo hi h e =
     or-cases (leb 4 f) (eqb lo 0 && eqb hi 0) e
     (λ p. let q : isFlag 4 f ≡ true = eq-eqb (f / 4 % 2) 1 (one (leb-true 4 f p)) in rw q)
@@ -289,7 +289,7 @@ value-back f lo hi h e =
     one : 4 ≤ f → f / 4 % 2 ≡ 1
     one p = omega arith
 
-    none : (g : Bool) → valueOf (detailOf g (0 + 65536 * 0)) ≡ 0 + 65536 * 0
+    none : (g : Bool) → valueOf (detailFromWord g (0 + 65536 * 0)) ≡ 0 + 65536 * 0
     none true = refl
     none false = refl
 
@@ -304,11 +304,11 @@ module _ (c n s k f lo hi : ℕ) (ok : eventWordsOk c n s k f lo hi ≡ true) (b
   count-same = let r : EventFacts c n s k f lo hi = facts in mod-eq-of-lt (omega arith)
 
   -- words that pass the tests read as an event in range
-  pub words-range : eventInRange (eventOf c n s k f lo hi) ≡ true
-  unfolding eventOf
+  pub words-range : eventInRange (eventFromWords c n s k f lo hi) ≡ true
+  unfolding eventFromWords
   words-range =
       let r : EventFacts c n s k f lo hi = facts in
-      facts-range (eventOf c n s k f lo hi)
+      facts-range (eventFromWords c n s k f lo hi)
       (record {
         codeLow = rw code-same (r .codeLow);
         codeHigh = rw code-same (r .codeHigh);
@@ -320,37 +320,37 @@ module _ (c n s k f lo hi : ℕ) (ok : eventWordsOk c n s k f lo hi ≡ true) (b
         detail = value-below (isFlag 4 f) lo hi below (r .highBelow);
       })
 
-  value-same : valueOf (eventOf c n s k f lo hi .detail) ≡ lo + 65536 * hi
-  unfolding eventOf
+  value-same : valueOf (eventFromWords c n s k f lo hi .detail) ≡ lo + 65536 * hi
+  unfolding eventFromWords
   value-same = let r : EventFacts c n s k f lo hi = facts in value-back f lo hi (r .flagsBelow) (r .detail)
 
   -- and the event has these words again
-  pub code-back : eventOf c n s k f lo hi .code ≡ c
-  unfolding eventOf
+  pub code-back : eventFromWords c n s k f lo hi .code ≡ c
+  unfolding eventFromWords
   code-back = code-same
 
-  pub count-back : eventOf c n s k f lo hi .count ≡ n
-  unfolding eventOf
+  pub count-back : eventFromWords c n s k f lo hi .count ≡ n
+  unfolding eventFromWords
   count-back = count-same
 
-  pub set-back : eventOf c n s k f lo hi .set ≡ s
-  unfolding eventOf
+  pub set-back : eventFromWords c n s k f lo hi .set ≡ s
+  unfolding eventFromWords
   set-back = refl
 
-  pub clear-back : eventOf c n s k f lo hi .clear ≡ k
-  unfolding eventOf
+  pub clear-back : eventFromWords c n s k f lo hi .clear ≡ k
+  unfolding eventFromWords
   clear-back = refl
 
-  pub flags-word-back : flagsWord (eventOf c n s k f lo hi) ≡ f
-  unfolding eventOf
+  pub flags-word-back : flagsWord (eventFromWords c n s k f lo hi) ≡ f
+  unfolding eventFromWords
   flags-word-back =
       let r : EventFacts c n s k f lo hi = facts in
       rw (given-back (isFlag 4 f) (lo + 65536 * hi)) (flags-back f (r .flagsBelow))
 
-  pub low-word-back : lowWord (eventOf c n s k f lo hi) ≡ lo
+  pub low-word-back : lowWord (eventFromWords c n s k f lo hi) ≡ lo
   low-word-back = ap (λ (v : ℕ). v % 65536) value-same ∙ add-mul-mod-self-left lo 65536 hi ∙ mod-eq-of-lt below
 
-  pub high-word-back : highWord (eventOf c n s k f lo hi) ≡ hi
+  pub high-word-back : highWord (eventFromWords c n s k f lo hi) ≡ hi
   high-word-back =
       let e : (lo + 65536 * hi) / 65536 ≡ lo / 65536 + hi = add-mul-div-left lo hi (omega arith) in
       let z : lo / 65536 ≡ 0 = div-eq-of-lt below in

@@ -13,7 +13,7 @@ use Rattle.model.specs.Counts.{sequence}
 use Rattle.model.specs.Compiling.{productionPasses, totalsPass, passesLimit}
 use Rattle.model.specs.Tables.{Call, Production, Table}
 use Rattle.model.specs.declared.scan.Span.{Span}
-use Rattle.tables.specs.Layout.{eventsOf, callsOf, parametersOf}
+use Rattle.tables.specs.Layout.{allEvents, allCalls, allParameters}
 use Rattle.tables.specs.Fitting.{eventInRange, spanInText, textLength, callInRange, textsInRange, hasEvent, fitting}
 use Rattle.tables.proofs.Lists.{none-all, all-none, all-weaker, all-flat, length-flat, inAll-flat, inAll-le}
 use Rattle.tables.proofs.Sizes.{length-expanded, length-le-size}
@@ -23,15 +23,15 @@ use Rattle.tables.proofs.Sizes.{length-expanded, length-le-size}
 pub record FitFacts (t : Table) : Type 0 where
   pub texts : textsInRange t ≡ true
   pub hasEvents : all hasEvent (t .productions) ≡ true
-  pub events : all eventInRange (eventsOf (t .productions)) ≡ true
-  pub calls : all (callInRange t) (callsOf (t .productions)) ≡ true
+  pub events : all eventInRange (allEvents (t .productions)) ≡ true
+  pub calls : all (callInRange t) (allCalls (t .productions)) ≡ true
   pub limit : passesLimit (t .productions) ≡ false
 
 abbrev fitTests : Table → List Bool
 fitTests t =
     all hasEvent (t .productions)
-    ∷ all eventInRange (eventsOf (t .productions))
-    ∷ all (callInRange t) (callsOf (t .productions))
+    ∷ all eventInRange (allEvents (t .productions))
+    ∷ all (callInRange t) (allCalls (t .productions))
     ∷ not (passesLimit (t .productions))
     ∷ []
 
@@ -99,7 +99,7 @@ facts-call t c r =
 pub short-span : Span → Bool
 short-span s = spanInText 8192 s
 
-pub short-spans : (t : Table) → TextFacts t → (cs : List Call) → all (callInRange t) cs ≡ true → all short-span (parametersOf cs) ≡ true
+pub short-spans : (t : Table) → TextFacts t → (cs : List Call) → all (callInRange t) cs ≡ true → all short-span (allParameters cs) ≡ true
 unfolding short-span spanInText
 short-spans t r cs e =
     all-flat short-span (λ (c : Call). c .parameters) cs
@@ -205,7 +205,7 @@ module _ (ps : List Production) where
       (le-ltb 256 rs (r .parameters)))
 
   -- how many entries there are in all
-  pub events-in-all : LimitFacts ps → length (eventsOf ps) ≤ 256
+  pub events-in-all : LimitFacts ps → length (allEvents ps) ≤ 256
   unfolding sequence
   events-in-all r =
       omega (
@@ -216,20 +216,20 @@ module _ (ps : List Production) where
             (λ p. let e = length-expanded (p .events) in let f = length-le-size (p .events) in omega arith),
       )
 
-  pub calls-in-all : LimitFacts ps → length (callsOf ps) ≤ 128
+  pub calls-in-all : LimitFacts ps → length (allCalls ps) ≤ 128
   calls-in-all r = omega (arith, length-flat (λ (p : Production). p .calls) ps, r .calls)
 
-  pub parameters-in-all : LimitFacts ps → length (parametersOf (callsOf ps)) ≤ 256
+  pub parameters-in-all : LimitFacts ps → length (allParameters (allCalls ps)) ≤ 256
   parameters-in-all r =
       omega (
         arith,
-        length-flat (λ (c : Call). c .parameters) (callsOf ps),
+        length-flat (λ (c : Call). c .parameters) (allCalls ps),
         r .parameters,
         inAll-flat (λ (c : Call). length (c .parameters)) (λ (p : Production). p .calls) ps,
       )
 
   -- 8 parameters a call
-  pub few-parameters : LimitFacts ps → all (λ (c : Call). leb (length (c .parameters)) 8) (callsOf ps) ≡ true
+  pub few-parameters : LimitFacts ps → all (λ (c : Call). leb (length (c .parameters)) 8) (allCalls ps) ≡ true
   few-parameters r =
       all-flat (λ (c : Call). leb (length (c .parameters)) 8) (λ (p : Production). p .calls) ps
       (all-weaker (λ (p : Production). not (productionPasses p)) (λ (p : Production). all (λ (c : Call). leb (length (c .parameters)) 8) (p .calls)) ps

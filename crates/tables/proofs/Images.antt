@@ -9,7 +9,7 @@ use Rattle.words.proofs.Images.{word-image, length-bytes}
 use Rattle.model.specs.Tables.{Call}
 use Rattle.model.specs.declared.scan.Span.{Span}
 use Rattle.model.specs.declared.events.KeptEvent.{KeptEvent}
-use Rattle.tables.specs.Layout.{Entries, joined, offset, capacities, sectionsOf, image, flagsWord, lowWord, highWord, markWord}
+use Rattle.tables.specs.Layout.{Entries, joinedSections, offset, capacities, sectionsOf, image, flagsWord, lowWord, highWord, markWord, tableLength}
 use Rattle.tables.proofs.Sections.{Sized, none, more, length-joined, read-joined, offset-below}
 
 -- entries within the capacities of their sections
@@ -44,9 +44,9 @@ sized x r =
     (more (le-map (λ (s : Span). s .start) (x .parameters) 256 (r .parameters))
     (more (le-map (λ (s : Span). s .len) (x .parameters) 256 (r .parameters)) none)))))))))))))))
 
-pub length-image : (x : Entries) → Room x → length (image x) ≡ 5904
+pub length-image : (x : Entries) → Room x → length (image x) ≡ tableLength
 unfolding image
-length-image x r = length-bytes (joined capacities (sectionsOf x)) ∙ ap (λ (n : ℕ). 2 * n) (length-joined capacities (sectionsOf x) (sized x r))
+length-image x r = length-bytes (joinedSections capacities (sectionsOf x)) ∙ ap (λ (n : ℕ). 2 * n) (length-joined capacities (sectionsOf x) (sized x r))
 
 -- word i of section j, read from the bytes
 pub section-word : (x : Entries) (rest : List ℕ) → Room x → (j i : ℕ) → i < getD capacities j 0
@@ -56,6 +56,6 @@ unfolding image
 section-word x rest r j i h b =
     let s = sized x r in
     let e = read-joined capacities (sectionsOf x) j i s h in
-    word-image (joined capacities (sectionsOf x)) rest (offset capacities j + i)
+    word-image (joinedSections capacities (sectionsOf x)) rest (offset capacities j + i)
     (omega (arith, length-joined capacities (sectionsOf x) s, offset-below capacities j i h))
     (rw e b) ∙ e

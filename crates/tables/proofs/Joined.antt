@@ -8,7 +8,7 @@ use lib.Bits.{bitOr}
 use borrow.Author.Tests.{leb-true, leb-false, le-leb, lt-leb, ltb-true, ltb-false, eqb-true, eqb-false, eq-eqb, ne-eqb}
 use Rattle.words.proofs.Bools.{and-left, and-right, and-both, same-test}
 use Rattle.words.proofs.Zeros.{or-zero, or-zero-three, or-zero-four, or-below}
-use Rattle.tables.specs.Checks.{eventWordsOk, textOf, callWordsOk}
+use Rattle.tables.specs.Checks.{eventWordsOk, lengthOfText, callWordsOk}
 
 -- ---- Events
 
@@ -114,8 +114,8 @@ joined-parameter b s n t =
 -- ---- Calls of a table that is not merged
 
 -- the mark has to be 0, and the name is in the first text
-plain-call : (m s n k f g : ℕ) → (eqb m 0 && leb k 8 && leb (s + n) f) ≡ callWordsOk m s n k 0 (textOf m f g)
-unfolding callWordsOk textOf
+plain-call : (m s n k f g : ℕ) → (eqb m 0 && leb k 8 && leb (s + n) f) ≡ callWordsOk m s n k 0 (lengthOfText m f g)
+unfolding callWordsOk lengthOfText
 plain-call m s n k f g = go (eqb m 0) refl
   where
     go : (t : Bool) → eqb m 0 ≡ t → (eqb m 0 && leb k 8 && leb (s + n) f) ≡ (leb m 0 && leb k 8 && leb (s + n) (cond (eqb m 1) g f))
@@ -136,7 +136,7 @@ marks-and-faults true true true true x y = refl
 -- one more call, joined to the marks j and the faults b of those before it
 pub joined-call : (j b m s n k f g : ℕ)
     → (eqb (bitOr j m) 0 && eqb (bitOr (bitOr (bitOr b (k - 8)) (s - f)) (n - (f - s))) 0)
-    ≡ ((eqb j 0 && eqb b 0) && callWordsOk m s n k 0 (textOf m f g))
+    ≡ ((eqb j 0 && eqb b 0) && callWordsOk m s n k 0 (lengthOfText m f g))
 joined-call j b m s n k f g =
     rw (or-zero j m, or-zero-four b (k - 8) (s - f) (n - (f - s)), within-bound k 8)
     (marks-and-faults (eqb j 0) (eqb m 0) (eqb b 0) (leb k 8) (eqb (s - f) 0) (eqb (n - (f - s)) 0)

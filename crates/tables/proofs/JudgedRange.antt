@@ -14,7 +14,7 @@ use Rattle.model.specs.Limits.{keysymLimit, smallDetailLimit}
 use Rattle.model.specs.Numbers.{eventOrder}
 use Rattle.model.specs.Bytes.{inRange, isCode, byteAt, isDigit}
 use Rattle.model.specs.Codes.{takesCount, isKey, isButton, motionNotify, hasMode, mappingNotify, hasAtom}
-use Rattle.model.specs.Names.{Entry, named, protocolEntries, synonymEntries, abbreviationEntries, typeEntries, typeNamed}
+use Rattle.model.specs.Names.{Entry, firstMeaning, protocolEntries, synonymEntries, abbreviationEntries, typeEntries, typeNamed}
 use Rattle.model.specs.Details.{digitsFrom, withinLimit, numberIn, keysymEntries, startsHexadecimal, keyDetail, buttonEntries, motionEntries, modeEntries, requestEntries, leadingZero, smallNumber, nameOrNumber, detailNamed}
 use Rattle.model.specs.Events.{Count, Written, WrittenEvent, event, key}
 use Rattle.model.specs.Modifiers.{bitIf, mask, setMask, clearMask, asksSet, asksClear}
@@ -34,10 +34,10 @@ use Rattle.tables.proofs.EventsRead.{WrittenSmall}
 -- ---- Names
 
 named-test : {A : Type 0} (test : A → Bool) (es : List (Entry A)) (other : A) (word : List ℕ) → all (λ (e : Entry A). test (e .meaning)) es ≡ true → test other ≡ true
-    → test (named es other word) ≡ true
+    → test (firstMeaning es other word) ≡ true
 named-test test [] other word a o = o
 named-test {A} test (e ∷ es) other word a o =
-    cond-both (λ (x : A). test x ≡ true) (same word (bytes (e .name))) (e .meaning) (named es other word)
+    cond-both (λ (x : A). test x ≡ true) (same word (bytes (e .name))) (e .meaning) (firstMeaning es other word)
     (λ _. and-left (test (e .meaning)) (all (λ (e : Entry A). test (e .meaning)) es) a)
     (λ _. named-test test es other word (and-right (test (e .meaning)) (all (λ (e : Entry A). test (e .meaning)) es) a) o)
 
@@ -82,13 +82,13 @@ keysyms-pass = refl
 key-pass : (word : List ℕ) → Small word → Pass (keyDetail word)
 unfolding keyDetail
 key-pass word s =
-    cond-both Pass (eqb (length word) 1) (DetailRead.Value (byteAt word 0)) (cond (startsHexadecimal word) (numberIn 16 keysymLimit (drop 2 word)) (cond (isCode (byteAt word 0) "0") (numberIn 8 keysymLimit word) (cond (isDigit (byteAt word 0)) (numberIn 10 keysymLimit word) (named keysymEntries DetailRead.Unknown word))))
+    cond-both Pass (eqb (length word) 1) (DetailRead.Value (byteAt word 0)) (cond (startsHexadecimal word) (numberIn 16 keysymLimit (drop 2 word)) (cond (isCode (byteAt word 0) "0") (numberIn 8 keysymLimit word) (cond (isDigit (byteAt word 0)) (numberIn 10 keysymLimit word) (firstMeaning keysymEntries DetailRead.Unknown word))))
     (λ _. let b = s 0 in le-leb (byteAt word 0) 0x1FFFFFFF (omega arith))
-    (λ _. cond-both Pass (startsHexadecimal word) (numberIn 16 keysymLimit (drop 2 word)) (cond (isCode (byteAt word 0) "0") (numberIn 8 keysymLimit word) (cond (isDigit (byteAt word 0)) (numberIn 10 keysymLimit word) (named keysymEntries DetailRead.Unknown word)))
+    (λ _. cond-both Pass (startsHexadecimal word) (numberIn 16 keysymLimit (drop 2 word)) (cond (isCode (byteAt word 0) "0") (numberIn 8 keysymLimit word) (cond (isDigit (byteAt word 0)) (numberIn 10 keysymLimit word) (firstMeaning keysymEntries DetailRead.Unknown word)))
     (λ _. number-pass 16 keysymLimit (drop 2 word) (omega arith))
-    (λ _. cond-both Pass (isCode (byteAt word 0) "0") (numberIn 8 keysymLimit word) (cond (isDigit (byteAt word 0)) (numberIn 10 keysymLimit word) (named keysymEntries DetailRead.Unknown word))
+    (λ _. cond-both Pass (isCode (byteAt word 0) "0") (numberIn 8 keysymLimit word) (cond (isDigit (byteAt word 0)) (numberIn 10 keysymLimit word) (firstMeaning keysymEntries DetailRead.Unknown word))
     (λ _. number-pass 8 keysymLimit word (omega arith))
-    (λ _. cond-both Pass (isDigit (byteAt word 0)) (numberIn 10 keysymLimit word) (named keysymEntries DetailRead.Unknown word)
+    (λ _. cond-both Pass (isDigit (byteAt word 0)) (numberIn 10 keysymLimit word) (firstMeaning keysymEntries DetailRead.Unknown word)
     (λ _. number-pass 10 keysymLimit word (omega arith))
     (λ _. named-test readTest keysymEntries DetailRead.Unknown word keysyms-pass refl))))
 
@@ -100,15 +100,15 @@ small-pass word =
 named-pass : (entries : List (Entry DetailRead)) (word : List ℕ) → all (λ (e : Entry DetailRead). readTest (e .meaning)) entries ≡ true → Pass (nameOrNumber entries word)
 unfolding nameOrNumber
 named-pass entries word a =
-    cond-both Pass (isDigit (byteAt word 0)) (smallNumber word) (named entries DetailRead.Unknown word)
+    cond-both Pass (isDigit (byteAt word 0)) (smallNumber word) (firstMeaning entries DetailRead.Unknown word)
     (λ _. small-pass word) (λ _. named-test readTest entries DetailRead.Unknown word a refl)
 
 detail-pass : (code : ℕ) (word : List ℕ) → Small word → Pass (detailNamed code word)
 unfolding detailNamed buttonEntries motionEntries modeEntries requestEntries
 detail-pass code word s =
-    cond-both Pass (isKey code) (keyDetail word) (cond (isButton code) (named buttonEntries DetailRead.Unknown word) (cond (eqb code motionNotify) (nameOrNumber motionEntries word) (cond (hasMode code) (nameOrNumber modeEntries word) (cond (eqb code mappingNotify) (nameOrNumber requestEntries word) (cond (hasAtom code) DetailRead.NotBuilt DetailRead.Unknown)))))
+    cond-both Pass (isKey code) (keyDetail word) (cond (isButton code) (firstMeaning buttonEntries DetailRead.Unknown word) (cond (eqb code motionNotify) (nameOrNumber motionEntries word) (cond (hasMode code) (nameOrNumber modeEntries word) (cond (eqb code mappingNotify) (nameOrNumber requestEntries word) (cond (hasAtom code) DetailRead.NotBuilt DetailRead.Unknown)))))
     (λ _. key-pass word s)
-    (λ _. cond-both Pass (isButton code) (named buttonEntries DetailRead.Unknown word) (cond (eqb code motionNotify) (nameOrNumber motionEntries word) (cond (hasMode code) (nameOrNumber modeEntries word) (cond (eqb code mappingNotify) (nameOrNumber requestEntries word) (cond (hasAtom code) DetailRead.NotBuilt DetailRead.Unknown))))
+    (λ _. cond-both Pass (isButton code) (firstMeaning buttonEntries DetailRead.Unknown word) (cond (eqb code motionNotify) (nameOrNumber motionEntries word) (cond (hasMode code) (nameOrNumber modeEntries word) (cond (eqb code mappingNotify) (nameOrNumber requestEntries word) (cond (hasAtom code) DetailRead.NotBuilt DetailRead.Unknown))))
     (λ _. named-test readTest buttonEntries DetailRead.Unknown word refl refl)
     (λ _. cond-both Pass (eqb code motionNotify) (nameOrNumber motionEntries word) (cond (hasMode code) (nameOrNumber modeEntries word) (cond (eqb code mappingNotify) (nameOrNumber requestEntries word) (cond (hasAtom code) DetailRead.NotBuilt DetailRead.Unknown)))
     (λ _. named-pass motionEntries word refl)

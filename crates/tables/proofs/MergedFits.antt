@@ -9,7 +9,7 @@ use Rattle.model.specs.Lists.{all, those}
 use Rattle.model.specs.Tables.{Call, Production, Table}
 use Rattle.model.specs.Merging.{isAmong, without, mergedProductions, markSecond, fromSecond, mergedTable, mergePassesLimit}
 use Rattle.model.specs.declared.events.Directive.{Directive}
-use Rattle.tables.specs.Layout.{flat, eventsOf, callsOf}
+use Rattle.tables.specs.Layout.{flat, allEvents, allCalls}
 use Rattle.tables.specs.Fitting.{eventInRange, spanInText, textLength, callInRange, hasEvent, fitting}
 use Rattle.tables.proofs.Lists.{all-append, all-append-left, all-append-right, all-weaker, all-flat}
 use Rattle.tables.proofs.Facts.{FitFacts, fit-facts, facts-fit, TextFacts, text-facts, facts-text, CallFacts, call-facts, facts-call}

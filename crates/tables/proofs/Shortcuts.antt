@@ -13,7 +13,7 @@ use Rattle.words.specs.Runs.{every, total}
 use Rattle.words.proofs.Bools.{chain-parts, chain-all}
 use Rattle.words.proofs.RunLaws.{every-at, every-all, every-add, total-add, total-more, total-same, total-part, total-bound, total-le, all-zeros, all-full}
 use Rattle.tables.specs.Layout.{productionEventsAt, productionCallsAt, codesAt, countsAt, setsAt, clearsAt, flagsAt, lowsAt, highsAt, marksAt, callParametersAt}
-use Rattle.tables.specs.Checks.{eventOk, textOf, callOk, parameterOk, parametersOk, inTurn, sizeOf, sizeAt, productionOk, plainOk, leastEvents, mostEvents, sequencesOk, fewAt, lowAt}
+use Rattle.tables.specs.Checks.{eventOk, lengthOfText, callOk, parameterOk, parametersOk, inTurn, sizeOf, sizeAt, productionOk, plainOk, leastEvents, mostEvents, sequencesOk, fewAt, lowAt}
 use Rattle.tables.proofs.EventWords.{EventFacts, event-facts}
 use Rattle.tables.proofs.CheckFacts.{CallWordFacts, call-word-facts}
 
@@ -29,23 +29,23 @@ low-total l s n b = total-same (lowAt l) (wordAt l) s s n (λ i h. mod-eq-of-lt 
 -- the parameters of calls of one mark that stand in a row
 flat-run : (l : List ℕ) (mark from n : ℕ) → ((i : ℕ) → i < n → wordAt l (marksAt + (from + i)) ≡ mark)
     → every (parametersOk l) from n
-    ≡ every (parameterOk l (textOf mark (wordAt l 2) (wordAt l 3))) (total (wordAt l) callParametersAt from) (total (wordAt l) (callParametersAt + from) n)
+    ≡ every (parameterOk l (lengthOfText mark (wordAt l 2) (wordAt l 3))) (total (wordAt l) callParametersAt from) (total (wordAt l) (callParametersAt + from) n)
 unfolding every total parametersOk
 flat-run l mark from zero m = refl
 flat-run l mark from (suc n) m =
     let e : callParametersAt + (from + n) ≡ callParametersAt + from + n = omega arith in
     rw (flat-run l mark from n (λ i h. m i (omega arith)), m n (omega arith), total-add (wordAt l) callParametersAt from n, e)
-    (sym (every-add (parameterOk l (textOf mark (wordAt l 2) (wordAt l 3))) (total (wordAt l) callParametersAt from) (total (wordAt l) (callParametersAt + from) n) (wordAt l (callParametersAt + from + n))))
+    (sym (every-add (parameterOk l (lengthOfText mark (wordAt l 2) (wordAt l 3))) (total (wordAt l) callParametersAt from) (total (wordAt l) (callParametersAt + from) n) (wordAt l (callParametersAt + from + n))))
 
 -- the same from the first call on
 flat-first : (l : List ℕ) (mark n : ℕ) → ((i : ℕ) → i < n → wordAt l (marksAt + i) ≡ mark)
-    → every (parametersOk l) 0 n ≡ every (parameterOk l (textOf mark (wordAt l 2) (wordAt l 3))) 0 (total (wordAt l) callParametersAt n)
+    → every (parametersOk l) 0 n ≡ every (parameterOk l (lengthOfText mark (wordAt l 2) (wordAt l 3))) 0 (total (wordAt l) callParametersAt n)
 unfolding total
 flat-first l mark n m = flat-run l mark 0 n (λ i h. rw zero-add (m i h))
 
 pub plain-parameters : (l : List ℕ) (n : ℕ) → wordAt l 1 ≡ 0 → every (callOk l) 0 n ≡ true
     → every (parametersOk l) 0 n ≡ every (parameterOk l (wordAt l 2)) 0 (total (wordAt l) callParametersAt n)
-unfolding textOf
+unfolding lengthOfText
 plain-parameters l n z ok =
     flat-first l 0 n (λ i h. unmarked i (call-word-facts l i (rw zero-add at (every-at (callOk l) 0 n i ok h))))
   where
@@ -55,7 +55,7 @@ plain-parameters l n z ok =
 -- k calls of one mark, then r of another
 two-runs : (l : List ℕ) (a b k r : ℕ) → ((i : ℕ) → i < k → wordAt l (marksAt + i) ≡ a) → ((i : ℕ) → i < r → wordAt l (marksAt + (k + i)) ≡ b)
     → every (parametersOk l) 0 (k + r)
-    ≡ inTurn l (textOf a (wordAt l 2) (wordAt l 3)) (textOf b (wordAt l 2) (wordAt l 3)) (total (wordAt l) callParametersAt k) (total (wordAt l) callParametersAt (k + r))
+    ≡ inTurn l (lengthOfText a (wordAt l 2) (wordAt l 3)) (lengthOfText b (wordAt l 2) (wordAt l 3)) (total (wordAt l) callParametersAt k) (total (wordAt l) callParametersAt (k + r))
 unfolding inTurn
 two-runs l a b k r f g =
     let t = total-add (wordAt l) callParametersAt k r in
@@ -99,7 +99,7 @@ module _ (l : List ℕ) (n : ℕ) (ok : every (callOk l) 0 n ≡ true) (few : wo
   mark-after-le k i h = let e : marksAt + k + i ≡ marksAt + (k + i) = omega arith in rw e (mark-le (k + i) (omega arith))
 
   split : (k a b : ℕ) → k ≤ n → ((i : ℕ) → i < k → wordAt l (marksAt + i) ≡ a) → ((i : ℕ) → i < n - k → wordAt l (marksAt + k + i) ≡ b)
-      → inTurn l (textOf a (wordAt l 2) (wordAt l 3)) (textOf b (wordAt l 2) (wordAt l 3)) (total (lowAt l) callParametersAt k) (total (wordAt l) callParametersAt n)
+      → inTurn l (lengthOfText a (wordAt l 2) (wordAt l 3)) (lengthOfText b (wordAt l 2) (wordAt l 3)) (total (lowAt l) callParametersAt k) (total (wordAt l) callParametersAt n)
       ≡ every (parametersOk l) 0 n
   split k a b h f g =
       let e : k + (n - k) ≡ n = omega arith in
@@ -111,7 +111,7 @@ module _ (l : List ℕ) (n : ℕ) (ok : every (callOk l) 0 n ≡ true) (few : wo
   -- the calls of the second text stand first
   pub second-first : (k : ℕ) → total (lowAt l) marksAt n ≡ k → total (lowAt l) marksAt k ≡ k
       → inTurn l (wordAt l 3) (wordAt l 2) (total (lowAt l) callParametersAt k) (total (wordAt l) callParametersAt n) ≡ every (parametersOk l) 0 n
-  unfolding textOf
+  unfolding lengthOfText
   second-first k e p =
       let h : k ≤ n = omega (arith, seconds-le) in
       let q : total (wordAt l) marksAt k ≡ k = sym (low-marks k h) ∙ p in
@@ -123,7 +123,7 @@ module _ (l : List ℕ) (n : ℕ) (ok : every (callOk l) 0 n ≡ true) (few : wo
   -- the calls of the first text stand first
   pub first-first : (s k : ℕ) → total (lowAt l) marksAt n ≡ s → n - s ≡ k → total (lowAt l) marksAt k ≡ 0
       → inTurn l (wordAt l 2) (wordAt l 3) (total (lowAt l) callParametersAt k) (total (wordAt l) callParametersAt n) ≡ every (parametersOk l) 0 n
-  unfolding textOf
+  unfolding lengthOfText
   first-first s k e w p =
       let h : k ≤ n = omega arith in
       let q : total (wordAt l) marksAt k ≡ 0 = sym (low-marks k h) ∙ p in

@@ -8,14 +8,14 @@ use lib.Dec.{eqb}
 use lib.ListN.{length, take, drop, take-append-drop, length-append}
 use lib.Seq.{take-at}
 use borrow.Author.Tests.{eq-eqb}
-use Rattle.words.specs.Words.{bytesOf, zeros}
+use Rattle.words.specs.Words.{wordBytes, zeros}
 use Rattle.words.proofs.Bools.{and-left, and-right, and-both}
 use Rattle.words.proofs.Laws.{zeros-add}
 use Rattle.words.proofs.Images.{bytes-zeros}
 use Rattle.model.specs.Lists.{same}
 use Rattle.model.specs.Tables.{Table, emptyTable}
 use Rattle.model.proofs.Sameness.{same-eq}
-use Rattle.tables.specs.Layout.{padded, joined, offset, tableLength, flat, headerOf, entriesOf, sectionsOf, image, encode}
+use Rattle.tables.specs.Layout.{padded, joinedSections, offset, tableLength, flat, headerOf, entriesOf, sectionsOf, image, encode}
 use Rattle.tables.specs.Reading.{decode}
 use Rattle.tables.specs.Fitting.{fitting}
 use Rattle.tables.specs.Whole.{whole}
@@ -76,8 +76,8 @@ zeros-none : [] ≡ zeros 0
 unfolding zeros
 zeros-none = refl
 
-pub joined-empty : (cs : List ℕ) → joined cs (map (λ c. []) cs) ≡ zeros (offset cs (length cs))
-unfolding joined padded
+pub joined-empty : (cs : List ℕ) → joinedSections cs (map (λ c. []) cs) ≡ zeros (offset cs (length cs))
+unfolding joinedSections padded
 joined-empty [] = zeros-none
 joined-empty (c ∷ cs) =
     let e : c - 0 ≡ c = omega arith in
@@ -90,10 +90,10 @@ header-empty = refl
 abbrev afterHeader : List ℕ
 afterHeader = 64 ∷ 64 ∷ 256 ∷ 256 ∷ 256 ∷ 256 ∷ 256 ∷ 256 ∷ 256 ∷ 128 ∷ 128 ∷ 128 ∷ 128 ∷ 256 ∷ 256 ∷ []
 
-words-empty : padded 8 (0 ∷ 0 ∷ 0 ∷ 0 ∷ 0 ∷ 0 ∷ 0 ∷ 0 ∷ []) ++ joined afterHeader (map (λ c. []) afterHeader) ≡ zeros 2952
+words-empty : padded 8 (0 ∷ 0 ∷ 0 ∷ 0 ∷ 0 ∷ 0 ∷ 0 ∷ 0 ∷ []) ++ joinedSections afterHeader (map (λ c. []) afterHeader) ≡ zeros 2952
 words-empty = rw (header-empty, joined-empty afterHeader) (zeros-add 8 2944)
 
 -- "After any other the compiler and merger leave the output table all zero, an empty table."
 pub encode-empty : encode emptyTable ≡ zeros tableLength
-unfolding encode image entriesOf sectionsOf headerOf flat joined
-encode-empty = ap bytesOf words-empty ∙ bytes-zeros 2952
+unfolding encode image entriesOf sectionsOf headerOf flat joinedSections
+encode-empty = ap wordBytes words-empty ∙ bytes-zeros 2952

@@ -5,13 +5,13 @@ use mathlib.Core.Path.{_≡_, refl, sym, ap, _∙_}
 use mathlib.Core.List.{List, [], _∷_, _++_, map}
 use mathlib.Core.Bool.{Bool}
 use lib.ListN.{length, getD, set, drop, length-map, length-append}
-use Rattle.words.specs.Words.{bytesOf, putWord, cleared}
+use Rattle.words.specs.Words.{wordBytes, putWord, cleared}
 use Rattle.words.proofs.Images.{put-image, bytes-zeros}
 use Rattle.model.specs.Tables.{Call}
 use Rattle.model.specs.declared.scan.Span.{Span}
 use Rattle.model.specs.declared.events.KeptEvent.{KeptEvent}
 use Rattle.model.specs.declared.events.Directive.{Directive}
-use Rattle.tables.specs.Layout.{Entries, joined, offset, capacities, sectionsOf, image, flag, directiveWord, flagsWord, lowWord, highWord, markWord, tableLength}
+use Rattle.tables.specs.Layout.{Entries, joinedSections, offset, capacities, sectionsOf, image, flag, directiveWord, flagsWord, lowWord, highWord, markWord, tableLength}
 use Rattle.tables.specs.Layout.{productionCallsAt, countsAt, setsAt, clearsAt, flagsAt, lowsAt, highsAt, nameStartsAt, nameLengthsAt, callParametersAt, parameterLengthsAt}
 use Rattle.tables.specs.Writing.{putTest, putDetail, putEvent, putCall, putParameter, putProduction, putTexts, putCounts, noEntries, withEvent, withCall, withParameter, withProduction, withHeader}
 use Rattle.tables.proofs.Sections.{Sized, none, more, length-joined, append-joined, offset-below}
@@ -30,16 +30,16 @@ sized-append (c ∷ cs) (s ∷ ss) (suc j) w (more q r) h = more q (sized-append
 
 -- bytes that hold these sections
 abbrev held : List (List ℕ) → List ℕ → List ℕ
-held ss rest = bytesOf (joined capacities ss) ++ rest
+held ss rest = wordBytes (joinedSections capacities ss) ++ rest
 
 -- a word put past the last one of section j, at its place n
 put-section : (ss : List (List ℕ)) (rest : List ℕ) (j n w : ℕ) → Sized capacities ss → length (getD ss j []) ≡ n → n < getD capacities j 0
     → putWord (held ss rest) (offset capacities j + n) w ≡ held (set ss j (getD ss j [] ++ (w ∷ []))) rest
 put-section ss rest j n w s e h =
     let q : length (getD ss j []) < getD capacities j 0 = rw e h in
-    put-image (joined capacities ss) rest (offset capacities j + n) w
+    put-image (joinedSections capacities ss) rest (offset capacities j + n) w
     (omega (arith, length-joined capacities ss s, offset-below capacities j n h))
-    ∙ ap (λ (W : List ℕ). bytesOf W ++ rest) (ap (λ (k : ℕ). set (joined capacities ss) (offset capacities j + k) w) (sym e) ∙ append-joined capacities ss j w s q)
+    ∙ ap (λ (W : List ℕ). wordBytes W ++ rest) (ap (λ (k : ℕ). set (joinedSections capacities ss) (offset capacities j + k) w) (sym e) ∙ append-joined capacities ss j w s q)
 
 map-append-one : {A : Type 0} (f : A → ℕ) (xs : List A) (x : A) → map f (xs ++ (x ∷ [])) ≡ map f xs ++ (f x ∷ [])
 map-append-one f [] x = refl
@@ -197,7 +197,7 @@ module _ (x : Entries) (rest : List ℕ) (room : Room x) where
 pub cleared-holds : (l : List ℕ) → cleared tableLength l ≡ image noEntries ++ drop tableLength l
 unfolding cleared image sectionsOf
 cleared-holds l =
-    ap (λ (a : List ℕ). a ++ drop tableLength l) (sym (ap bytesOf (joined-empty capacities) ∙ bytes-zeros 2952))
+    ap (λ (a : List ℕ). a ++ drop tableLength l) (sym (ap wordBytes (joined-empty capacities) ∙ bytes-zeros 2952))
 
 pub no-room : Room noEntries
 no-room =

@@ -94,8 +94,8 @@ eventOk l i =
 -- ---- Calls and parameters
 
 -- the length of the text that a mark names
-unfoldable pub textOf : (mark first second : ℕ) → ℕ
-textOf mark first second = cond (eqb mark 1) second first
+unfoldable pub lengthOfText : (mark first second : ℕ) → ℕ
+lengthOfText mark first second = cond (eqb mark 1) second first
 
 unfoldable pub callWordsOk : (mark start len parameters merged text : ℕ) → Bool
 callWordsOk mark start len parameters merged text = leb mark merged && leb parameters 8 && leb (start + len) text
@@ -108,7 +108,7 @@ callOk l i =
     (wordAt l (nameLengthsAt + i))
     (wordAt l (callParametersAt + i))
     (wordAt l 1)
-    (textOf (wordAt l (marksAt + i)) (wordAt l 2) (wordAt l 3))
+    (lengthOfText (wordAt l (marksAt + i)) (wordAt l 2) (wordAt l 3))
 
 unfoldable pub parameterOk : List ℕ → ℕ → ℕ → Bool
 parameterOk l text i = leb (wordAt l (parameterStartsAt + i) + wordAt l (parameterLengthsAt + i)) text
@@ -116,7 +116,7 @@ parameterOk l text i = leb (wordAt l (parameterStartsAt + i) + wordAt l (paramet
 -- the parameters of call i
 unfoldable pub parametersOk : List ℕ → ℕ → Bool
 parametersOk l i =
-    every (parameterOk l (textOf (wordAt l (marksAt + i)) (wordAt l 2) (wordAt l 3)))
+    every (parameterOk l (lengthOfText (wordAt l (marksAt + i)) (wordAt l 2) (wordAt l 3)))
     (total (wordAt l) callParametersAt i)
     (wordAt l (callParametersAt + i))
 

@@ -11,7 +11,7 @@ use Rattle.model.specs.Compiling.{passesLimit}
 use Rattle.model.specs.Tables.{Call, Production, Table}
 use Rattle.model.specs.declared.scan.Span.{Span}
 use Rattle.model.specs.declared.events.KeptEvent.{KeptEvent}
-use Rattle.tables.specs.Layout.{valueOf, eventsOf, callsOf}
+use Rattle.tables.specs.Layout.{valueOf, allEvents, allCalls}
 
 -- an event: code 2..34; count 1..9, above 1 on codes 2..5 only; bits 0..12 asked set, asked clear; detail up to 0x1FFFFFFF
 unfoldable pub eventInRange : KeptEvent → Bool
@@ -50,6 +50,6 @@ unfoldable pub fitting : Table → Bool
 fitting t =
     textsInRange t
     && all hasEvent (t .productions)
-    && all eventInRange (eventsOf (t .productions))
-    && all (callInRange t) (callsOf (t .productions))
+    && all eventInRange (allEvents (t .productions))
+    && all (callInRange t) (allCalls (t .productions))
     && not (passesLimit (t .productions))

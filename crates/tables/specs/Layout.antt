@@ -4,7 +4,7 @@ use Prim.Native.Nat.{ℕ, zero, suc, _+_, _-_, _/_, _%_}
 use mathlib.Core.Bool.{Bool, cond}
 use mathlib.Core.List.{List, [], _∷_, _++_, map}
 use lib.ListN.{length}
-use Rattle.words.specs.Words.{bytesOf, zeros}
+use Rattle.words.specs.Words.{wordBytes, zeros}
 use Rattle.model.specs.Tables.{Call, Production, Table}
 use Rattle.model.specs.declared.scan.Span.{Span}
 use Rattle.model.specs.declared.events.Detail.{Detail}
@@ -18,10 +18,10 @@ unfoldable pub padded : ℕ → List ℕ → List ℕ
 padded capacity ws = ws ++ zeros (capacity - length ws)
 
 -- padded sections, one after the other
-unfoldable pub joined : List ℕ → List (List ℕ) → List ℕ
-joined [] sections = []
-joined (c ∷ cs) [] = padded c [] ++ joined cs []
-joined (c ∷ cs) (s ∷ ss) = padded c s ++ joined cs ss
+unfoldable pub joinedSections : List ℕ → List (List ℕ) → List ℕ
+joinedSections [] sections = []
+joinedSections (c ∷ cs) [] = padded c [] ++ joinedSections cs []
+joinedSections (c ∷ cs) (s ∷ ss) = padded c s ++ joinedSections cs ss
 
 -- where section j begins
 abbrev pub offset : List ℕ → ℕ → ℕ
@@ -130,19 +130,19 @@ markWord c = flag 1 (c .second)
 -- ---- A table's entries in production order, with no nesting
 
 module _ {A B : Type 0} where
-  -- the lists of all elements, joined in order
+  -- the lists of all elements, joinedSections in order
   unfoldable pub flat : (A → List B) → List A → List B
   flat f [] = []
   flat f (x ∷ xs) = f x ++ flat f xs
 
-abbrev pub eventsOf : List Production → List KeptEvent
-eventsOf ps = flat (λ (p : Production). p .events) ps
+abbrev pub allEvents : List Production → List KeptEvent
+allEvents ps = flat (λ (p : Production). p .events) ps
 
-abbrev pub callsOf : List Production → List Call
-callsOf ps = flat (λ (p : Production). p .calls) ps
+abbrev pub allCalls : List Production → List Call
+allCalls ps = flat (λ (p : Production). p .calls) ps
 
-abbrev pub parametersOf : List Call → List Span
-parametersOf cs = flat (λ (c : Call). c .parameters) cs
+abbrev pub allParameters : List Call → List Span
+allParameters cs = flat (λ (c : Call). c .parameters) cs
 
 pub record Entries : Type 0 where
   pub header : List ℕ
@@ -161,9 +161,9 @@ headerOf t =
     ∷ t .firstLength
     ∷ t .secondLength
     ∷ length (t .productions)
-    ∷ length (eventsOf (t .productions))
-    ∷ length (callsOf (t .productions))
-    ∷ length (parametersOf (callsOf (t .productions)))
+    ∷ length (allEvents (t .productions))
+    ∷ length (allCalls (t .productions))
+    ∷ length (allParameters (allCalls (t .productions)))
     ∷ []
 
 unfoldable pub entriesOf : Table → Entries
@@ -172,9 +172,9 @@ entriesOf t =
       header = headerOf t;
       productionEvents = map (λ (p : Production). length (p .events)) (t .productions);
       productionCalls = map (λ (p : Production). length (p .calls)) (t .productions);
-      events = eventsOf (t .productions);
-      calls = callsOf (t .productions);
-      parameters = parametersOf (callsOf (t .productions));
+      events = allEvents (t .productions);
+      calls = allCalls (t .productions);
+      parameters = allParameters (allCalls (t .productions));
     }
 
 -- the words of each section that are used
@@ -200,7 +200,7 @@ sectionsOf x =
 
 -- entries as bytes
 unfoldable pub image : Entries → List ℕ
-image x = bytesOf (joined capacities (sectionsOf x))
+image x = wordBytes (joinedSections capacities (sectionsOf x))
 
 -- a table as bytes
 unfoldable pub encode : Table → List ℕ

@@ -9,9 +9,9 @@ ghost use Prim.Native.Nat.{_+_, _-_, _*_, _≤_, _<_};
 ghost use lib.ListN.{length};
 ghost use Rattle.words.specs.Words.{wordAt};
 ghost use Rattle.words.specs.Runs.{every, total};
-ghost use Rattle.tables.specs.Layout.{productionEventsAt, productionCallsAt, countsAt, callParametersAt};
+ghost use Rattle.tables.specs.Layout.{productionEventsAt, productionCallsAt, countsAt, callParametersAt, tableLength};
 ghost use Rattle.tables.specs.Whole.{whole};
-ghost use Rattle.tables.specs.Checks.{textWordsOk, countWordsOk, headerOk, sumsOk, productionsRest, testsRest, detailsRest, callsRest, parametersRest, unusedOk, eventWordsOk, eventOk, textOf, callWordsOk, callOk, parameterOk, parametersOk, inTurn, sizeOf, sizeAt, productionOk, plainOk, leastEvents, mostEvents, sequencesOk, fewAt, lowAt, entriesOk};
+ghost use Rattle.tables.specs.Checks.{textWordsOk, countWordsOk, headerOk, sumsOk, productionsRest, testsRest, detailsRest, callsRest, parametersRest, unusedOk, eventWordsOk, eventOk, lengthOfText, callWordsOk, callOk, parameterOk, parametersOk, inTurn, sizeOf, sizeAt, productionOk, plainOk, leastEvents, mostEvents, sequencesOk, fewAt, lowAt, entriesOk};
 
 // ---- The header
 
@@ -32,7 +32,7 @@ fn counts_ok(productions: u16, events: u16, calls: u16, parameters: u16) -> bool
 }
 
 fn header_ok(l: &[u8]) -> bool
-    requires { ⌜ 5904 ≤ length (now l) ⌝ }
+    requires { ⌜ tableLength ≤ length (now l) ⌝ }
     ensures { λ r. ⌜ r ≡ headerOk (now (l .entry)) ⌝ }
 {
     let texts = texts_ok(
@@ -53,7 +53,7 @@ fn header_ok(l: &[u8]) -> bool
 // ---- Unused words
 
 fn productions_rest(l: &[u8], n: usize) -> bool
-    requires { ⌜ (5904 ≤ length (now l)) × (n ≤ 64) ⌝ }
+    requires { ⌜ (tableLength ≤ length (now l)) × (n ≤ 64) ⌝ }
     ensures { λ r. ⌜ r ≡ productionsRest (now (l .entry)) n ⌝ }
 {
     words::zero_in_two(
@@ -65,7 +65,7 @@ fn productions_rest(l: &[u8], n: usize) -> bool
 }
 
 fn tests_rest(l: &[u8], n: usize) -> bool
-    requires { ⌜ (5904 ≤ length (now l)) × (n ≤ 256) ⌝ }
+    requires { ⌜ (tableLength ≤ length (now l)) × (n ≤ 256) ⌝ }
     ensures { λ r. ⌜ r ≡ testsRest (now (l .entry)) n ⌝ }
 {
     words::zero_in_four(
@@ -79,7 +79,7 @@ fn tests_rest(l: &[u8], n: usize) -> bool
 }
 
 fn details_rest(l: &[u8], n: usize) -> bool
-    requires { ⌜ (5904 ≤ length (now l)) × (n ≤ 256) ⌝ }
+    requires { ⌜ (tableLength ≤ length (now l)) × (n ≤ 256) ⌝ }
     ensures { λ r. ⌜ r ≡ detailsRest (now (l .entry)) n ⌝ }
 {
     words::zero_in_three(
@@ -92,7 +92,7 @@ fn details_rest(l: &[u8], n: usize) -> bool
 }
 
 fn calls_rest(l: &[u8], n: usize) -> bool
-    requires { ⌜ (5904 ≤ length (now l)) × (n ≤ 128) ⌝ }
+    requires { ⌜ (tableLength ≤ length (now l)) × (n ≤ 128) ⌝ }
     ensures { λ r. ⌜ r ≡ callsRest (now (l .entry)) n ⌝ }
 {
     words::zero_in_four(
@@ -106,7 +106,7 @@ fn calls_rest(l: &[u8], n: usize) -> bool
 }
 
 fn parameters_rest(l: &[u8], n: usize) -> bool
-    requires { ⌜ (5904 ≤ length (now l)) × (n ≤ 256) ⌝ }
+    requires { ⌜ (tableLength ≤ length (now l)) × (n ≤ 256) ⌝ }
     ensures { λ r. ⌜ r ≡ parametersRest (now (l .entry)) n ⌝ }
 {
     words::zero_in_two(
@@ -118,7 +118,7 @@ fn parameters_rest(l: &[u8], n: usize) -> bool
 }
 
 fn unused_ok(l: &[u8]) -> bool
-    requires { ⌜ (5904 ≤ length (now l)) × ((wordAt (now l) 4 ≤ 64) × (wordAt (now l) 5 ≤ 256) × (wordAt (now l) 6 ≤ 128) × (wordAt (now l) 7 ≤ 256)) ⌝ }
+    requires { ⌜ (tableLength ≤ length (now l)) × ((wordAt (now l) 4 ≤ 64) × (wordAt (now l) 5 ≤ 256) × (wordAt (now l) 6 ≤ 128) × (wordAt (now l) 7 ≤ 256)) ⌝ }
     ensures { λ r. ⌜ r ≡ unusedOk (now (l .entry)) ⌝ }
 {
     let productions = words::word_at(l, places::PRODUCTIONS) as usize;
@@ -164,7 +164,7 @@ pub struct EventTally {
 }
 
 fn events_tally(l: &[u8], n: usize) -> EventTally
-    requires { ⌜ (5904 ≤ length (now l)) × (n ≤ 256) ⌝ }
+    requires { ⌜ (tableLength ≤ length (now l)) × (n ≤ 256) ⌝ }
     ensures { λ r. ⌜ (r .ok ≡ every (eventOk (now (l .entry))) 0 n) × (r .counts ≡ total (lowAt (now (l .entry))) countsAt n) × (r .few ≡ every (fewAt (now (l .entry))) 0 n) ⌝ }
 {
     let mut ok = true;
@@ -198,7 +198,7 @@ fn events_tally(l: &[u8], n: usize) -> EventTally
 
 // The length of the text that a mark names.
 fn text_of(mark: u16, first: u16, second: u16) -> u16
-    ensures { λ r. ⌜ r ≡ textOf mark first second ⌝ }
+    ensures { λ r. ⌜ r ≡ lengthOfText mark first second ⌝ }
 {
     if mark == 1 { second } else { first }
 }
@@ -225,7 +225,7 @@ fn call_ok(mark: u16, start: u16, len: u16, parameters: u16, merged: u16, text: 
 
 // The calls of any table, and the sum of their numbers of parameters.
 fn marked_calls(l: &[u8], n: usize) -> Tally
-    requires { ⌜ (5904 ≤ length (now l)) × (n ≤ 128) ⌝ }
+    requires { ⌜ (tableLength ≤ length (now l)) × (n ≤ 128) ⌝ }
     ensures { λ r. ⌜ (r .ok ≡ every (callOk (now (l .entry))) 0 n) × (r .total ≡ total (lowAt (now (l .entry))) callParametersAt n) ⌝ }
 {
     let merged = words::word_at(l, places::MERGED);
@@ -258,7 +258,7 @@ fn marked_calls(l: &[u8], n: usize) -> Tally
 // The same for a table that is not merged. There every mark has to be 0 and every name is in the first text, so that none is
 // chosen: the marks, and what is above a bound, are joined and tested once.
 fn plain_calls(l: &[u8], n: usize) -> Tally
-    requires { ⌜ ((5904 ≤ length (now l)) × (n ≤ 128)) × (wordAt (now l) 1 ≡ 0) ⌝ }
+    requires { ⌜ ((tableLength ≤ length (now l)) × (n ≤ 128)) × (wordAt (now l) 1 ≡ 0) ⌝ }
     ensures { λ r. ⌜ (r .ok ≡ every (callOk (now (l .entry))) 0 n) × (r .total ≡ total (lowAt (now (l .entry))) callParametersAt n) ⌝ }
 {
     let first = words::word_at(l, places::FIRST_LENGTH);
@@ -286,7 +286,7 @@ fn plain_calls(l: &[u8], n: usize) -> Tally
 
 // The calls, and the sum of their numbers of parameters.
 fn calls_tally(l: &[u8], n: usize) -> Tally
-    requires { ⌜ (5904 ≤ length (now l)) × (n ≤ 128) ⌝ }
+    requires { ⌜ (tableLength ≤ length (now l)) × (n ≤ 128) ⌝ }
     ensures { λ r. ⌜ (r .ok ≡ every (callOk (now (l .entry))) 0 n) × (r .total ≡ total (lowAt (now (l .entry))) callParametersAt n) ⌝ }
 {
     if words::word_at(l, places::MERGED) == 0 {
@@ -297,7 +297,7 @@ fn calls_tally(l: &[u8], n: usize) -> Tally
 
 // Whether n parameters, from one on, are parts of a text of this length.
 fn parameters_in(l: &[u8], text: u16, from: usize, n: usize) -> bool
-    requires { ⌜ (5904 ≤ length (now l)) × (from + n ≤ 256) ⌝ }
+    requires { ⌜ (tableLength ≤ length (now l)) × (from + n ≤ 256) ⌝ }
     ensures { λ r. ⌜ r ≡ every (parameterOk (now (l .entry)) text) from n ⌝ }
 {
     let mut faults: u16 = 0;
@@ -314,7 +314,7 @@ fn parameters_in(l: &[u8], text: u16, from: usize, n: usize) -> bool
 
 // The same in two runs that cover the n, so that none are left over when sixteen are taken at a time.
 fn parameters_within(l: &[u8], text: u16, from: usize, n: usize) -> bool
-    requires { ⌜ (5904 ≤ length (now l)) × (from + n ≤ 256) ⌝ }
+    requires { ⌜ (tableLength ≤ length (now l)) × (from + n ≤ 256) ⌝ }
     ensures { λ r. ⌜ r ≡ every (parameterOk (now (l .entry)) text) from n ⌝ }
 {
     if n < 16 {
@@ -326,7 +326,7 @@ fn parameters_within(l: &[u8], text: u16, from: usize, n: usize) -> bool
 
 // The parameters of n calls, each in its call's text.
 fn parameters_ok(l: &[u8], n: usize) -> bool
-    requires { ⌜ (5904 ≤ length (now l)) × (n ≤ 128) × (total (wordAt (now l)) callParametersAt n ≤ 256) ⌝ }
+    requires { ⌜ (tableLength ≤ length (now l)) × (n ≤ 128) × (total (wordAt (now l)) callParametersAt n ≤ 256) ⌝ }
     ensures { λ r. ⌜ r ≡ every (parametersOk (now (l .entry))) 0 n ⌝ }
 {
     let first = words::word_at(l, places::FIRST_LENGTH);
@@ -360,7 +360,7 @@ fn low_sum(l: &[u8], k: usize, n: usize) -> u16
 
 // The parameters of k calls in a text of one length, and the others in a text of another.
 fn texts_in_turn(l: &[u8], before: u16, after: u16, k: usize, parameters: usize) -> bool
-    requires { ⌜ ((5904 ≤ length (now l)) × (k ≤ 128)) × ((total (lowAt (now l)) callParametersAt k ≤ parameters) × (parameters ≤ 256)) ⌝ }
+    requires { ⌜ ((tableLength ≤ length (now l)) × (k ≤ 128)) × ((total (lowAt (now l)) callParametersAt k ≤ parameters) × (parameters ≤ 256)) ⌝ }
     ensures { λ r. ⌜ r ≡ inTurn (now (l .entry)) before after (total (lowAt (now (l .entry))) callParametersAt k) parameters ⌝ }
 {
     let p = low_sum(l, places::CALL_PARAMETERS, k) as usize;
@@ -371,7 +371,7 @@ fn texts_in_turn(l: &[u8], before: u16, after: u16, k: usize, parameters: usize)
 // the sum of the marks is how many calls are of the second text, and the sum over as many first ones tells whether they
 // are these. Where the texts take turns more often, it goes call by call.
 fn merged_ok(l: &[u8], n: usize, parameters: usize) -> bool
-    requires { ⌜ ((5904 ≤ length (now l)) × (n ≤ 128)) × ((total (wordAt (now l)) callParametersAt n ≡ parameters) × (parameters ≤ 256) × (every (callOk (now l)) 0 n ≡ true) × (wordAt (now l) 1 ≤ 1)) ⌝ }
+    requires { ⌜ ((tableLength ≤ length (now l)) × (n ≤ 128)) × ((total (wordAt (now l)) callParametersAt n ≡ parameters) × (parameters ≤ 256) × (every (callOk (now l)) 0 n ≡ true) × (wordAt (now l) 1 ≤ 1)) ⌝ }
     ensures { λ r. ⌜ r ≡ every (parametersOk (now (l .entry))) 0 n ⌝ }
 {
     let first = words::word_at(l, places::FIRST_LENGTH);
@@ -388,7 +388,7 @@ fn merged_ok(l: &[u8], n: usize, parameters: usize) -> bool
 
 // The parameters of n calls. Only a merged table has calls of two texts; in any other one loop goes over all parameters.
 fn spans_ok(l: &[u8], n: usize, parameters: usize) -> bool
-    requires { ⌜ ((5904 ≤ length (now l)) × (n ≤ 128)) × ((total (wordAt (now l)) callParametersAt n ≡ parameters) × (parameters ≤ 256) × (every (callOk (now l)) 0 n ≡ true) × (wordAt (now l) 1 ≤ 1)) ⌝ }
+    requires { ⌜ ((tableLength ≤ length (now l)) × (n ≤ 128)) × ((total (wordAt (now l)) callParametersAt n ≡ parameters) × (parameters ≤ 256) × (every (callOk (now l)) 0 n ≡ true) × (wordAt (now l) 1 ≤ 1)) ⌝ }
     ensures { λ r. ⌜ r ≡ every (parametersOk (now (l .entry))) 0 n ⌝ }
 {
     if words::word_at(l, places::MERGED) == 0 {
@@ -414,7 +414,7 @@ fn size_of(code: u16, count: u16) -> u32
 
 // How many events n events, from one on, stand for.
 fn sizes(l: &[u8], from: usize, n: usize) -> u32
-    requires { ⌜ (5904 ≤ length (now l)) × (from + n ≤ 256) ⌝ }
+    requires { ⌜ (tableLength ≤ length (now l)) × (from + n ≤ 256) ⌝ }
     ensures { λ r. ⌜ r ≡ total (sizeAt (now (l .entry))) from n ⌝ }
 {
     let mut s: u32 = 0;
@@ -431,7 +431,7 @@ fn sizes(l: &[u8], from: usize, n: usize) -> u32
 }
 
 fn productions_ok(l: &[u8], n: usize) -> bool
-    requires { ⌜ (5904 ≤ length (now l)) × (n ≤ 64) × (total (wordAt (now l)) productionEventsAt n ≤ 256) ⌝ }
+    requires { ⌜ (tableLength ≤ length (now l)) × (n ≤ 64) × (total (wordAt (now l)) productionEventsAt n ≤ 256) ⌝ }
     ensures { λ r. ⌜ r ≡ every (productionOk (now (l .entry))) 0 n ⌝ }
 {
     let mut ok = true;
@@ -458,7 +458,7 @@ pub struct Sums {
 
 // How far each number is past its bounds is joined and tested once.
 fn productions_tally(l: &[u8], n: usize, most: u16) -> Sums
-    requires { ⌜ (5904 ≤ length (now l)) × (n ≤ 64) ⌝ }
+    requires { ⌜ (tableLength ≤ length (now l)) × (n ≤ 64) ⌝ }
     ensures { λ r. ⌜ (r .ok ≡ every (plainOk (now (l .entry)) most) 0 n) × (r .events ≡ total (lowAt (now (l .entry))) productionEventsAt n) × (r .calls ≡ total (lowAt (now (l .entry))) productionCallsAt n) ⌝ }
 {
     let mut faults: u16 = 0;
@@ -499,7 +499,7 @@ fn most_events(extra: usize, least: u16) -> u16
 
 // The productions, event by event.
 fn exact_ok(l: &[u8], n: usize, events: usize, calls: usize) -> bool
-    requires { ⌜ ((5904 ≤ length (now l)) × (n ≤ 64)) × ((events ≤ 256) × (calls ≤ 128)) ⌝ }
+    requires { ⌜ ((tableLength ≤ length (now l)) × (n ≤ 64)) × ((events ≤ 256) × (calls ≤ 128)) ⌝ }
     ensures { λ r. ⌜ r ≡ sequencesOk (now (l .entry)) n events calls ⌝ }
 {
     if words::sum(l, places::PRODUCTION_EVENTS, n) != events as u32 {
@@ -525,7 +525,7 @@ fn low_size(code: u16, count: u16) -> u16
 
 // How many events the first n stand for, all in range.
 fn low_sizes(l: &[u8], n: usize) -> u16
-    requires { ⌜ (5904 ≤ length (now l)) × (n ≤ 256) × (every (eventOk (now l)) 0 n ≡ true) ⌝ }
+    requires { ⌜ (tableLength ≤ length (now l)) × (n ≤ 256) × (every (eventOk (now l)) 0 n ≡ true) ⌝ }
     ensures { λ r. ⌜ r ≡ total (sizeAt (now (l .entry))) 0 n ⌝ }
 {
     let mut s: u16 = 0;
@@ -542,7 +542,7 @@ fn low_sizes(l: &[u8], n: usize) -> u16
 
 // Whether the events of the table stand for no more than they may, where they stand for at most `extra` more than they are.
 fn sizes_ok(l: &[u8], events: usize, extra: usize) -> bool
-    requires { ⌜ ((5904 ≤ length (now l)) × (events ≤ 256)) × ((every (eventOk (now l)) 0 events ≡ true) × (extra ≡ 3 * (total (wordAt (now l)) countsAt events - events)) × (extra < 200000)) ⌝ }
+    requires { ⌜ ((tableLength ≤ length (now l)) × (events ≤ 256)) × ((every (eventOk (now l)) 0 events ≡ true) × (extra ≡ 3 * (total (wordAt (now l)) countsAt events - events)) × (extra < 200000)) ⌝ }
     ensures { λ r. ⌜ r ≡ leb (total (sizeAt (now (l .entry))) 0 events) 256 ⌝ }
 {
     if events + extra <= 256 {
@@ -556,7 +556,7 @@ fn sizes_ok(l: &[u8], events: usize, extra: usize) -> bool
 // for at most 6, so that a production of four such events is within its limit whatever the others are. Mostly no production
 // can pass its limit by that.
 fn sequences_ok(l: &[u8], n: usize, events: usize, calls: usize, counts: usize, few: bool) -> bool
-    requires { ⌜ ((5904 ≤ length (now l)) × (n ≤ 64)) × ((events ≤ 256) × (calls ≤ 128)) × ((every (eventOk (now l)) 0 events ≡ true) × (counts ≡ total (wordAt (now l)) countsAt events) × (events ≤ counts) × (counts < 65536) × (few ≡ every (fewAt (now l)) 0 events)) ⌝ }
+    requires { ⌜ ((tableLength ≤ length (now l)) × (n ≤ 64)) × ((events ≤ 256) × (calls ≤ 128)) × ((every (eventOk (now l)) 0 events ≡ true) × (counts ≡ total (wordAt (now l)) countsAt events) × (events ≤ counts) × (counts < 65536) × (few ≡ every (fewAt (now l)) 0 events)) ⌝ }
     ensures { λ r. ⌜ r ≡ sequencesOk (now (l .entry)) n events calls ⌝ }
 {
     let extra = 3 * (counts - events);
@@ -573,7 +573,7 @@ fn sequences_ok(l: &[u8], n: usize, events: usize, calls: usize, counts: usize, 
 
 // The entries, and that their numbers add up to those of the header.
 fn entries_ok(l: &[u8]) -> bool
-    requires { ⌜ ((5904 ≤ length (now l)) × (wordAt (now l) 1 ≤ 1)) × ((wordAt (now l) 4 ≤ 64) × (wordAt (now l) 5 ≤ 256) × (wordAt (now l) 6 ≤ 128) × (wordAt (now l) 7 ≤ 256)) ⌝ }
+    requires { ⌜ ((tableLength ≤ length (now l)) × (wordAt (now l) 1 ≤ 1)) × ((wordAt (now l) 4 ≤ 64) × (wordAt (now l) 5 ≤ 256) × (wordAt (now l) 6 ≤ 128) × (wordAt (now l) 7 ≤ 256)) ⌝ }
     ensures { λ r. ⌜ r ≡ (sumsOk (now (l .entry)) && entriesOk (now (l .entry))) ⌝ }
 {
     let productions = words::word_at(l, places::PRODUCTIONS) as usize;
@@ -599,7 +599,7 @@ fn entries_ok(l: &[u8]) -> bool
 pub fn whole(l: &[u8]) -> bool
     ensures { λ r. ⌜ r ≡ whole (now (l .entry)) ⌝ }
 {
-    if l.len() < 5904 {
+    if l.len() < crate::TABLE_LENGTH {
         return false;
     }
     if !header_ok(l) {

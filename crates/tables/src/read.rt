@@ -7,12 +7,13 @@ use model::scan::Span;
 ghost use mathlib.Core.Path.{_≡_};
 ghost use Prim.Native.Nat.{_+_, _*_, _≤_, _<_};
 ghost use lib.ListN.{length};
-ghost use Rattle.tables.specs.Reading.{directiveIn, mergedIn, firstLengthIn, secondLengthIn, productionCount, eventCount, callCount, parameterCount, parameterAt, markAt, nameAt, callParameters, parametersFrom, isFlag, detailOf, eventOf, eventAt, productionEvents, productionCalls, eventsFrom, callsFrom};
+ghost use Rattle.tables.specs.Reading.{directiveIn, mergedIn, firstLengthIn, secondLengthIn, productionTotal, eventTotal, callTotal, parameterTotal, parameterEntry, markEntry, nameEntry, callParameters, firstParameter, isFlag, detailFromWord, eventFromWords, eventEntry, productionEvents, productionCalls, firstEvent, firstCall};
+ghost use Rattle.tables.specs.Layout.{tableLength};
 
 // ---- The header
 
 pub fn directive(l: &[u8]) -> Directive
-    requires { ⌜ 5904 ≤ length (now l) ⌝ }
+    requires { ⌜ tableLength ≤ length (now l) ⌝ }
     ensures { λ r. ⌜ r ≡ directiveIn (now (l .entry)) ⌝ }
 {
     let w = words::word_at(l, places::DIRECTIVE);
@@ -26,50 +27,50 @@ pub fn directive(l: &[u8]) -> Directive
 }
 
 pub fn merged(l: &[u8]) -> bool
-    requires { ⌜ 5904 ≤ length (now l) ⌝ }
+    requires { ⌜ tableLength ≤ length (now l) ⌝ }
     ensures { λ r. ⌜ r ≡ mergedIn (now (l .entry)) ⌝ }
 {
     words::word_at(l, places::MERGED) == 1
 }
 
 pub fn first_length(l: &[u8]) -> usize
-    requires { ⌜ 5904 ≤ length (now l) ⌝ }
+    requires { ⌜ tableLength ≤ length (now l) ⌝ }
     ensures { λ r. ⌜ r ≡ firstLengthIn (now (l .entry)) ⌝ }
 {
     words::word_at(l, places::FIRST_LENGTH) as usize
 }
 
 pub fn second_length(l: &[u8]) -> usize
-    requires { ⌜ 5904 ≤ length (now l) ⌝ }
+    requires { ⌜ tableLength ≤ length (now l) ⌝ }
     ensures { λ r. ⌜ r ≡ secondLengthIn (now (l .entry)) ⌝ }
 {
     words::word_at(l, places::SECOND_LENGTH) as usize
 }
 
 pub fn production_count(l: &[u8]) -> usize
-    requires { ⌜ 5904 ≤ length (now l) ⌝ }
-    ensures { λ r. ⌜ r ≡ productionCount (now (l .entry)) ⌝ }
+    requires { ⌜ tableLength ≤ length (now l) ⌝ }
+    ensures { λ r. ⌜ r ≡ productionTotal (now (l .entry)) ⌝ }
 {
     words::word_at(l, places::PRODUCTIONS) as usize
 }
 
 pub fn event_count(l: &[u8]) -> usize
-    requires { ⌜ 5904 ≤ length (now l) ⌝ }
-    ensures { λ r. ⌜ r ≡ eventCount (now (l .entry)) ⌝ }
+    requires { ⌜ tableLength ≤ length (now l) ⌝ }
+    ensures { λ r. ⌜ r ≡ eventTotal (now (l .entry)) ⌝ }
 {
     words::word_at(l, places::EVENTS) as usize
 }
 
 pub fn call_count(l: &[u8]) -> usize
-    requires { ⌜ 5904 ≤ length (now l) ⌝ }
-    ensures { λ r. ⌜ r ≡ callCount (now (l .entry)) ⌝ }
+    requires { ⌜ tableLength ≤ length (now l) ⌝ }
+    ensures { λ r. ⌜ r ≡ callTotal (now (l .entry)) ⌝ }
 {
     words::word_at(l, places::CALLS) as usize
 }
 
 pub fn parameter_count(l: &[u8]) -> usize
-    requires { ⌜ 5904 ≤ length (now l) ⌝ }
-    ensures { λ r. ⌜ r ≡ parameterCount (now (l .entry)) ⌝ }
+    requires { ⌜ tableLength ≤ length (now l) ⌝ }
+    ensures { λ r. ⌜ r ≡ parameterTotal (now (l .entry)) ⌝ }
 {
     words::word_at(l, places::PARAMETERS) as usize
 }
@@ -77,14 +78,14 @@ pub fn parameter_count(l: &[u8]) -> usize
 // ---- Productions
 
 pub fn production_events(l: &[u8], p: usize) -> usize
-    requires { ⌜ (5904 ≤ length (now l)) × (p < 64) ⌝ }
+    requires { ⌜ (tableLength ≤ length (now l)) × (p < 64) ⌝ }
     ensures { λ r. ⌜ r ≡ productionEvents (now (l .entry)) p ⌝ }
 {
     words::word_at(l, places::PRODUCTION_EVENTS + p) as usize
 }
 
 pub fn production_calls(l: &[u8], p: usize) -> usize
-    requires { ⌜ (5904 ≤ length (now l)) × (p < 64) ⌝ }
+    requires { ⌜ (tableLength ≤ length (now l)) × (p < 64) ⌝ }
     ensures { λ r. ⌜ r ≡ productionCalls (now (l .entry)) p ⌝ }
 {
     words::word_at(l, places::PRODUCTION_CALLS + p) as usize
@@ -92,16 +93,16 @@ pub fn production_calls(l: &[u8], p: usize) -> usize
 
 // The place of a production's first event among all.
 pub fn events_from(l: &[u8], p: usize) -> usize
-    requires { ⌜ (5904 ≤ length (now l)) × (p ≤ 64) ⌝ }
-    ensures { λ r. ⌜ r ≡ eventsFrom (now (l .entry)) p ⌝ }
+    requires { ⌜ (tableLength ≤ length (now l)) × (p ≤ 64) ⌝ }
+    ensures { λ r. ⌜ r ≡ firstEvent (now (l .entry)) p ⌝ }
 {
     words::sum(l, places::PRODUCTION_EVENTS, p) as usize
 }
 
 // The place of a production's first call among all.
 pub fn calls_from(l: &[u8], p: usize) -> usize
-    requires { ⌜ (5904 ≤ length (now l)) × (p ≤ 64) ⌝ }
-    ensures { λ r. ⌜ r ≡ callsFrom (now (l .entry)) p ⌝ }
+    requires { ⌜ (tableLength ≤ length (now l)) × (p ≤ 64) ⌝ }
+    ensures { λ r. ⌜ r ≡ firstCall (now (l .entry)) p ⌝ }
 {
     words::sum(l, places::PRODUCTION_CALLS, p) as usize
 }
@@ -110,15 +111,15 @@ pub fn calls_from(l: &[u8], p: usize) -> usize
 
 // Whether the call came from the second text.
 pub fn call_mark(l: &[u8], i: usize) -> bool
-    requires { ⌜ (5904 ≤ length (now l)) × (i < 128) ⌝ }
-    ensures { λ r. ⌜ r ≡ markAt (now (l .entry)) i ⌝ }
+    requires { ⌜ (tableLength ≤ length (now l)) × (i < 128) ⌝ }
+    ensures { λ r. ⌜ r ≡ markEntry (now (l .entry)) i ⌝ }
 {
     words::word_at(l, places::MARKS + i) == 1
 }
 
 pub fn call_name(l: &[u8], i: usize) -> Span
-    requires { ⌜ (5904 ≤ length (now l)) × (i < 128) ⌝ }
-    ensures { λ r. ⌜ r ≡ nameAt (now (l .entry)) i ⌝ }
+    requires { ⌜ (tableLength ≤ length (now l)) × (i < 128) ⌝ }
+    ensures { λ r. ⌜ r ≡ nameEntry (now (l .entry)) i ⌝ }
 {
     Span {
         start: words::word_at(l, places::NAME_STARTS + i) as usize,
@@ -127,7 +128,7 @@ pub fn call_name(l: &[u8], i: usize) -> Span
 }
 
 pub fn call_parameters(l: &[u8], i: usize) -> usize
-    requires { ⌜ (5904 ≤ length (now l)) × (i < 128) ⌝ }
+    requires { ⌜ (tableLength ≤ length (now l)) × (i < 128) ⌝ }
     ensures { λ r. ⌜ r ≡ callParameters (now (l .entry)) i ⌝ }
 {
     words::word_at(l, places::CALL_PARAMETERS + i) as usize
@@ -135,15 +136,15 @@ pub fn call_parameters(l: &[u8], i: usize) -> usize
 
 // The place of a call's first parameter among all.
 pub fn parameters_from(l: &[u8], i: usize) -> usize
-    requires { ⌜ (5904 ≤ length (now l)) × (i ≤ 128) ⌝ }
-    ensures { λ r. ⌜ r ≡ parametersFrom (now (l .entry)) i ⌝ }
+    requires { ⌜ (tableLength ≤ length (now l)) × (i ≤ 128) ⌝ }
+    ensures { λ r. ⌜ r ≡ firstParameter (now (l .entry)) i ⌝ }
 {
     words::sum(l, places::CALL_PARAMETERS, i) as usize
 }
 
 pub fn parameter_span(l: &[u8], i: usize) -> Span
-    requires { ⌜ (5904 ≤ length (now l)) × (i < 256) ⌝ }
-    ensures { λ r. ⌜ r ≡ parameterAt (now (l .entry)) i ⌝ }
+    requires { ⌜ (tableLength ≤ length (now l)) × (i < 256) ⌝ }
+    ensures { λ r. ⌜ r ≡ parameterEntry (now (l .entry)) i ⌝ }
 {
     Span {
         start: words::word_at(l, places::PARAMETER_STARTS + i) as usize,
@@ -154,7 +155,7 @@ pub fn parameter_span(l: &[u8], i: usize) -> Span
 // ---- Events
 
 fn detail_of(flags: u16, low: u16, high: u16) -> Detail
-    ensures { λ r. ⌜ r ≡ detailOf (isFlag 4 flags) (low + 65536 * high) ⌝ }
+    ensures { λ r. ⌜ r ≡ detailFromWord (isFlag 4 flags) (low + 65536 * high) ⌝ }
 {
     if flags / 4 % 2 == 1 {
         Detail::Value(low as u32 + 65536 * (high as u32))
@@ -172,7 +173,7 @@ fn event_of(
     low: u16,
     high: u16,
 ) -> KeptEvent
-    ensures { λ r. ⌜ r ≡ eventOf code count set clear flags low high ⌝ }
+    ensures { λ r. ⌜ r ≡ eventFromWords code count set clear flags low high ⌝ }
 {
     KeptEvent {
         code: (code % 256) as u8,
@@ -186,8 +187,8 @@ fn event_of(
 }
 
 pub fn event_at(l: &[u8], i: usize) -> KeptEvent
-    requires { ⌜ (5904 ≤ length (now l)) × (i < 256) ⌝ }
-    ensures { λ r. ⌜ r ≡ eventAt (now (l .entry)) i ⌝ }
+    requires { ⌜ (tableLength ≤ length (now l)) × (i < 256) ⌝ }
+    ensures { λ r. ⌜ r ≡ eventEntry (now (l .entry)) i ⌝ }
 {
     event_of(
         words::word_at(l, places::CODES + i),

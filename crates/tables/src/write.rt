@@ -5,18 +5,18 @@ use model::events::Directive;
 use model::events::KeptEvent;
 use model::scan::Span;
 ghost use mathlib.Core.Path.{_≡_};
-ghost use Prim.Native.Nat.{_+_, _*_, _≤_, _<_};
+ghost use Prim.Native.Nat.{_+_, _≤_, _<_};
 ghost use lib.ListN.{length};
 ghost use Rattle.words.specs.Words.{cleared};
-ghost use Rattle.tables.specs.Layout.{flag, isGiven, valueOf, directiveWord, flagsWord};
+ghost use Rattle.tables.specs.Layout.{flag, isGiven, valueOf, directiveWord, tableLength};
 ghost use Rattle.tables.specs.Writing.{putTest, putDetail, putEvent, putCall, putParameter, putProduction, putTexts, putCounts};
 
 // The empty table.
 pub fn clear(out: &mut [u8])
-    requires { ⌜ 5904 ≤ length (now out) ⌝ }
-    ensures { λ r. ⌜ now (out .exit) ≡ cleared 5904 (now (out .entry)) ⌝ }
+    requires { ⌜ tableLength ≤ length (now out) ⌝ }
+    ensures { λ r. ⌜ now (out .exit) ≡ cleared tableLength (now (out .entry)) ⌝ }
 {
-    words::clear(out, 5904);
+    words::clear(out, crate::TABLE_LENGTH);
 }
 
 fn flag_word(value: u16, is: bool) -> u16
@@ -46,7 +46,7 @@ fn value_of(d: Detail) -> u32
 }
 
 fn put_test(out: &mut [u8], i: usize, code: u16, count: u16, set: u16, clear: u16)
-    requires { ⌜ (5904 ≤ length (now out)) × (i < 256) ⌝ }
+    requires { ⌜ (tableLength ≤ length (now out)) × (i < 256) ⌝ }
     ensures { λ r. ⌜ now (out .exit) ≡ putTest (now (out .entry)) i code count set clear ⌝ }
 {
     words::put_word(out, places::CODES + i, code);
@@ -56,7 +56,7 @@ fn put_test(out: &mut [u8], i: usize, code: u16, count: u16, set: u16, clear: u1
 }
 
 fn put_detail(out: &mut [u8], i: usize, flags: u16, low: u16, high: u16)
-    requires { ⌜ (5904 ≤ length (now out)) × (i < 256) ⌝ }
+    requires { ⌜ (tableLength ≤ length (now out)) × (i < 256) ⌝ }
     ensures { λ r. ⌜ now (out .exit) ≡ putDetail (now (out .entry)) i flags low high ⌝ }
 {
     words::put_word(out, places::FLAGS + i, flags);
@@ -71,7 +71,7 @@ fn flags_of(colon: bool, clause: bool, given: bool) -> u16
 }
 
 pub fn put_event(out: &mut [u8], i: usize, e: KeptEvent)
-    requires { ⌜ (5904 ≤ length (now out)) × (i < 256) ⌝ }
+    requires { ⌜ (tableLength ≤ length (now out)) × (i < 256) ⌝ }
     ensures { λ r. ⌜ now (out .exit) ≡ putEvent (now (out .entry)) i e ⌝ }
 {
     let code = e.code;
@@ -92,7 +92,7 @@ pub fn put_event(out: &mut [u8], i: usize, e: KeptEvent)
 // ---- Calls and parameters
 
 pub fn put_call(out: &mut [u8], i: usize, second: bool, name: Span, parameters: usize)
-    requires { ⌜ ((5904 ≤ length (now out)) × (i < 128)) × ((name .start < 65536) × (name .len < 65536) × (parameters < 65536)) ⌝ }
+    requires { ⌜ ((tableLength ≤ length (now out)) × (i < 128)) × ((name .start < 65536) × (name .len < 65536) × (parameters < 65536)) ⌝ }
     ensures { λ r. ⌜ now (out .exit) ≡ putCall (now (out .entry)) i second name parameters ⌝ }
 {
     let start = name.start;
@@ -104,7 +104,7 @@ pub fn put_call(out: &mut [u8], i: usize, second: bool, name: Span, parameters: 
 }
 
 pub fn put_parameter(out: &mut [u8], i: usize, s: Span)
-    requires { ⌜ ((5904 ≤ length (now out)) × (i < 256)) × ((s .start < 65536) × (s .len < 65536)) ⌝ }
+    requires { ⌜ ((tableLength ≤ length (now out)) × (i < 256)) × ((s .start < 65536) × (s .len < 65536)) ⌝ }
     ensures { λ r. ⌜ now (out .exit) ≡ putParameter (now (out .entry)) i s ⌝ }
 {
     let start = s.start;
@@ -117,7 +117,7 @@ pub fn put_parameter(out: &mut [u8], i: usize, s: Span)
 
 // How many events and calls a production has.
 pub fn put_production(out: &mut [u8], p: usize, events: usize, calls: usize)
-    requires { ⌜ ((5904 ≤ length (now out)) × (p < 64)) × ((events < 65536) × (calls < 65536)) ⌝ }
+    requires { ⌜ ((tableLength ≤ length (now out)) × (p < 64)) × ((events < 65536) × (calls < 65536)) ⌝ }
     ensures { λ r. ⌜ now (out .exit) ≡ putProduction (now (out .entry)) p events calls ⌝ }
 {
     words::put_word(out, places::PRODUCTION_EVENTS + p, events as u16);
@@ -137,7 +137,7 @@ fn directive_word(d: Directive) -> u16
 }
 
 pub fn put_texts(out: &mut [u8], directive: Directive, merged: bool, first: usize, second: usize)
-    requires { ⌜ (5904 ≤ length (now out)) × ((first < 65536) × (second < 65536)) ⌝ }
+    requires { ⌜ (tableLength ≤ length (now out)) × ((first < 65536) × (second < 65536)) ⌝ }
     ensures { λ r. ⌜ now (out .exit) ≡ putTexts (now (out .entry)) directive merged first second ⌝ }
 {
     words::put_word(out, places::DIRECTIVE, directive_word(directive));
@@ -153,7 +153,7 @@ pub fn put_counts(
     calls: usize,
     parameters: usize,
 )
-    requires { ⌜ (5904 ≤ length (now out)) × ((productions < 65536) × (events < 65536) × (calls < 65536) × (parameters < 65536)) ⌝ }
+    requires { ⌜ (tableLength ≤ length (now out)) × ((productions < 65536) × (events < 65536) × (calls < 65536) × (parameters < 65536)) ⌝ }
     ensures { λ r. ⌜ now (out .exit) ≡ putCounts (now (out .entry)) productions events calls parameters ⌝ }
 {
     words::put_word(out, places::PRODUCTIONS, productions as u16);

@@ -7,29 +7,29 @@ use mathlib.Core.Path.{_≡_, refl, ap, _∙_}
 use mathlib.Core.List.{List, [], _∷_, _++_}
 use lib.ListN.{length, take, drop, getD, set}
 use lib.Seq.{drop-cons}
-use Rattle.words.specs.Words.{bytesOf, wordAt, putWord, zeros}
+use Rattle.words.specs.Words.{wordBytes, wordAt, putWord, zeros}
 use Rattle.words.specs.Runs.{run}
 
-pub bytes-append : (a b : List ℕ) → bytesOf (a ++ b) ≡ bytesOf a ++ bytesOf b
-unfolding bytesOf
+pub bytes-append : (a b : List ℕ) → wordBytes (a ++ b) ≡ wordBytes a ++ wordBytes b
+unfolding wordBytes
 bytes-append [] b = refl
 bytes-append (x ∷ xs) b = ap (λ (r : List ℕ). x % 256 ∷ x / 256 % 256 ∷ r) (bytes-append xs b)
 
-pub length-bytes : (a : List ℕ) → length (bytesOf a) ≡ 2 * length a
-unfolding bytesOf
+pub length-bytes : (a : List ℕ) → length (wordBytes a) ≡ 2 * length a
+unfolding wordBytes
 length-bytes [] = refl
 length-bytes (x ∷ xs) = omega (arith, length-bytes xs)
 
-pub bytes-zeros : (n : ℕ) → bytesOf (zeros n) ≡ zeros (2 * n)
-unfolding bytesOf zeros
+pub bytes-zeros : (n : ℕ) → wordBytes (zeros n) ≡ zeros (2 * n)
+unfolding wordBytes zeros
 bytes-zeros zero = refl
 bytes-zeros (suc n) =
     let e : 2 * suc n ≡ suc (suc (2 * n)) = omega arith in
     rw e (ap (λ (r : List ℕ). 0 ∷ 0 ∷ r) (bytes-zeros n))
 
 -- a word stored in the bytes of words is stored in the words
-pub put-image : (W rest : List ℕ) (k v : ℕ) → k < length W → putWord (bytesOf W ++ rest) k v ≡ bytesOf (set W k v) ++ rest
-unfolding putWord bytesOf
+pub put-image : (W rest : List ℕ) (k v : ℕ) → k < length W → putWord (wordBytes W ++ rest) k v ≡ wordBytes (set W k v) ++ rest
+unfolding putWord wordBytes
 put-image [] rest k v h = absurd (omega arith)
 put-image (w ∷ ws) rest zero v h = refl
 put-image (w ∷ ws) rest (suc k) v h =
@@ -38,8 +38,8 @@ put-image (w ∷ ws) rest (suc k) v h =
     rw (e, e1) (ap (λ (r : List ℕ). w % 256 ∷ w / 256 % 256 ∷ r) (put-image ws rest k v (omega arith)))
 
 -- a word read back
-pub word-image : (W rest : List ℕ) (k : ℕ) → k < length W → getD W k 0 < 65536 → wordAt (bytesOf W ++ rest) k ≡ getD W k 0
-unfolding wordAt bytesOf
+pub word-image : (W rest : List ℕ) (k : ℕ) → k < length W → getD W k 0 < 65536 → wordAt (wordBytes W ++ rest) k ≡ getD W k 0
+unfolding wordAt wordBytes
 word-image [] rest k h b = absurd (omega arith)
 word-image (w ∷ ws) rest zero h b = omega arith
 word-image (w ∷ ws) rest (suc k) h b =
@@ -59,8 +59,8 @@ high-byte a b p q =
     rw (e, f, zero-add) (mod-eq-of-lt q)
 
 -- bytes are those of the words that are read from them
-pub bytes-run : (l : List ℕ) (s n : ℕ) → ((i : ℕ) → getD l i 0 < 256) → 2 * (s + n) ≤ length l → take (2 * n) (drop (2 * s) l) ≡ bytesOf (run (wordAt l) s n)
-unfolding bytesOf run wordAt
+pub bytes-run : (l : List ℕ) (s n : ℕ) → ((i : ℕ) → getD l i 0 < 256) → 2 * (s + n) ≤ length l → take (2 * n) (drop (2 * s) l) ≡ wordBytes (run (wordAt l) s n)
+unfolding wordBytes run wordAt
 bytes-run l s zero b h = refl
 bytes-run l s (suc n) b h =
     let e : 2 * suc n ≡ suc (suc (2 * n)) = omega arith in

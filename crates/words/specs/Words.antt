@@ -4,9 +4,9 @@ use mathlib.Core.List.{List, [], _∷_, _++_}
 use lib.ListN.{getD, set, drop, replicate}
 
 -- the bytes of words
-unfoldable pub bytesOf : List ℕ → List ℕ
-bytesOf [] = []
-bytesOf (w ∷ ws) = w % 256 ∷ w / 256 % 256 ∷ bytesOf ws
+unfoldable pub wordBytes : List ℕ → List ℕ
+wordBytes [] = []
+wordBytes (w ∷ ws) = w % 256 ∷ w / 256 % 256 ∷ wordBytes ws
 
 -- word k of bytes
 unfoldable pub wordAt : List ℕ → ℕ → ℕ

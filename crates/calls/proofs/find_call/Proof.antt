@@ -3,24 +3,24 @@ use native.Mathlib.Omega.{arith}
 use mathlib.Core.Path.{_≡_, sym}
 use Prim.Native.Nat.{_+_, _<_}
 use Rattle.tables.proofs.Theorems.{whole-length}
-use Rattle.tables.specs.Reading.{callsFrom}
+use Rattle.tables.specs.Reading.{firstCall}
 use Rattle.calls.specs.declared.Place.{Place}
 use Rattle.calls.specs.Places.{placeOf}
 use Rattle.calls.proofs.Asked.{productions-below, calls-below, place-below, no-place-production, no-place-call, place-found}
 use Rattle.calls.proofs.find_call.Statement.{statement}
 use Rattle.calls.proofs.find_call.Tie as tie
 
-found : (c : tie.After-calls-from) → Place.At (callsFrom (c .before .before .before .before .before .before .args .table .now) (c .before .before .before .before .before .before .args .production) + c .before .before .before .before .before .before .args .call) ≡ placeOf (c .before .before .before .before .before .before .args .table .now) (c .before .before .before .before .before .before .args .production) (c .before .before .before .before .before .before .args .call)
+found : (c : tie.After-calls-from) → Place.At (firstCall (c .before .before .before .before .before .before .args .table .now) (c .before .before .before .before .before .before .args .production) + c .before .before .before .before .before .before .args .call) ≡ placeOf (c .before .before .before .before .before .before .args .table .now) (c .before .before .before .before .before .before .args .production) (c .before .before .before .before .before .before .args .call)
 found c =
     let e = c .before .before .before .before .production-count .ensures in
     let f = c .before .before .production-calls .ensures in
     place-found (c .before .before .before .before .before .before .args .table .now) (c .before .before .before .before .before .before .args .production) (c .before .before .before .before .before .before .args .call) (omega arith) (omega arith)
 
-found-below : (c : tie.After-calls-from) → callsFrom (c .before .before .before .before .before .before .args .table .now) (c .before .before .before .before .before .before .args .production) + c .before .before .before .before .before .before .args .call < 128
+found-below : (c : tie.After-calls-from) → firstCall (c .before .before .before .before .before .before .args .table .now) (c .before .before .before .before .before .before .args .production) + c .before .before .before .before .before .before .args .call < 128
 found-below c =
     omega (
       arith,
-      place-below (c .before .before .before .before .before .before .args .table .now) (c .before .before .before .before .before .before .args .production) (c .before .before .before .before .before .before .args .call) (callsFrom (c .before .before .before .before .before .before .args .table .now) (c .before .before .before .before .before .before .args .production) + c .before .before .before .before .before .before .args .call) (c .before .before .before .before .before .before .pre) (sym (found c)),
+      place-below (c .before .before .before .before .before .before .args .table .now) (c .before .before .before .before .before .before .args .production) (c .before .before .before .before .before .before .args .call) (firstCall (c .before .before .before .before .before .before .args .table .now) (c .before .before .before .before .before .before .args .production) + c .before .before .before .before .before .before .args .call) (c .before .before .before .before .before .before .pre) (sym (found c)),
       calls-below (c .before .before .before .before .before .before .args .table .now) (c .before .before .before .before .before .before .pre),
     )
 
@@ -50,7 +50,7 @@ calls-from-requires c κs =
 
 add-t6 : tie.Need-add-t6
 add-t6 c =
-    let h : callsFrom (c .before .before .before .before .before .before .args .table .now) (c .before .before .before .before .before .before .args .production) + c .before .before .before .before .before .before .args .call < 128 = found-below c in
+    let h : firstCall (c .before .before .before .before .before .before .args .table .now) (c .before .before .before .before .before .before .args .production) + c .before .before .before .before .before .before .args .call < 128 = found-below c in
     let g = c .calls-from .ensures in
     omega arith
 

@@ -6,7 +6,7 @@ use Prim.Native.Nat.{_+_, _<_}
 use Rattle.tables.proofs.Theorems.{whole-length}
 use mathlib.Core.Bool.{true}
 use Rattle.tables.specs.Whole.{whole}
-use Rattle.tables.specs.Reading.{callCount, callParameters, parametersFrom}
+use Rattle.tables.specs.Reading.{callTotal, callParameters, firstParameter}
 use Rattle.calls.specs.declared.Place.{Place}
 use Rattle.calls.specs.Refusals.{lentRefusal}
 use Rattle.calls.specs.Places.{placeOf}
@@ -26,7 +26,7 @@ is-whole c = lent-whole (c .before .before .before .before .before .before .befo
 found : (c : tie.After-known-told) → placeOf (c .before .before .before .before .before .before .before .before .before .args .table .now) (c .before .before .before .before .before .before .before .before .before .args .production) (c .before .before .before .before .before .before .before .before .before .args .call) ≡ Place.At (c .before .place .given .0 .0)
 found c = sym (c .before .before .before .find-call .ensures) ∙ c .before .place .given .1
 
-among : (c : tie.After-known-told) → c .before .place .given .0 .0 < callCount (c .before .before .before .before .before .before .before .before .before .args .table .now)
+among : (c : tie.After-known-told) → c .before .place .given .0 .0 < callTotal (c .before .before .before .before .before .before .before .before .before .args .table .now)
 among c = place-below (c .before .before .before .before .before .before .before .before .before .args .table .now) (c .before .before .before .before .before .before .before .before .before .args .production) (c .before .before .before .before .before .before .before .before .before .args .call) (c .before .place .given .0 .0) (is-whole c) (found c)
 
 below : (c : tie.After-known-told) → c .before .place .given .0 .0 < 128
@@ -36,7 +36,7 @@ below c = omega (arith, among c, calls-below (c .before .before .before .before 
 in-call : (c : tie.After-parameters-from) → c .before .before .before .before .before .before .before .before .before .before .before .before .args .parameter < callParameters (c .before .before .before .before .before .before .before .before .before .before .before .before .args .table .now) (c .before .before .before .before .place .given .0 .0)
 in-call c = let e = c .before .before .call-parameters .ensures in omega arith
 
-parameter-in : (c : tie.After-parameters-from) → parametersFrom (c .before .before .before .before .before .before .before .before .before .before .before .before .args .table .now) (c .before .before .before .before .place .given .0 .0) + c .before .before .before .before .before .before .before .before .before .before .before .before .args .parameter < 256
+parameter-in : (c : tie.After-parameters-from) → firstParameter (c .before .before .before .before .before .before .before .before .before .before .before .before .args .table .now) (c .before .before .before .before .place .given .0 .0) + c .before .before .before .before .before .before .before .before .before .before .before .before .args .parameter < 256
 parameter-in c =
     parameter-below (c .before .before .before .before .before .before .before .before .before .before .before .before .args .table .now) (c .before .before .before .before .place .given .0 .0) (c .before .before .before .before .before .before .before .before .before .before .before .before .args .parameter) (is-whole (c .before .before .before)) (among (c .before .before .before)) (in-call c)
 

@@ -4,17 +4,17 @@ use native.Mathlib.Omega.{arith}
 use Prim.Native.Nat.{_+_, _≤_}
 use mathlib.Core.Path.{subst}
 use lib.ListN.{length}
-use Rattle.calls.specs.Parts.{Within}
+use Rattle.calls.specs.Parts.{PartWithin}
 use Rattle.calls.proofs.PartLaws.{first-part, second-part, no-part, first-begins, second-begins, no-part-begins}
 use Rattle.calls.proofs.part.Statement.{statement}
 use Rattle.calls.proofs.part.Tie as tie
 
 -- the part lies in its text
 in-first : (c : tie.After-known-told) → c .before .place .given .0 .0 + c .before .place .given .0 .1 .0 ≤ length (c .before .before .before .args .first .now)
-in-first c = subst (Within (c .before .before .before .args .first .now) (c .before .before .before .args .second .now)) (c .before .place .given .1) (c .before .before .before .pre)
+in-first c = subst (PartWithin (c .before .before .before .args .first .now) (c .before .before .before .args .second .now)) (c .before .place .given .1) (c .before .before .before .pre)
 
 in-second : (c : tie.After-known-told2) → c .before .place2 .given .0 .0 + c .before .place2 .given .0 .1 .0 ≤ length (c .before .before .before .args .second .now)
-in-second c = subst (Within (c .before .before .before .args .first .now) (c .before .before .before .args .second .now)) (c .before .place2 .given .1) (c .before .before .before .pre)
+in-second c = subst (PartWithin (c .before .before .before .args .first .now) (c .before .before .before .args .second .now)) (c .before .place2 .given .1) (c .before .before .before .pre)
 
 enum-known-place : tie.Need-enum-known-place
 enum-known-place c = search needs

@@ -15,6 +15,7 @@ use Rattle.merger.proofs.Answer as answer
 use Rattle.model.specs.Numbers.{mergeOrder}
 use Rattle.merger.proofs.merge.Statement.{statement}
 use Rattle.merger.proofs.merge.Tie as tie
+use Rattle.tables.specs.Layout.{tableLength}
 
 returns : tie.Need-returns
 returns c =
@@ -59,9 +60,9 @@ put-merged-requires c κs =
     let o = c .before .before .before .before .before .before .before .before .before .before .before .before .before .args .old .now in
     let n = c .before .before .before .before .before .before .before .before .before .before .before .before .before .args .new .now in
     let u = c .before .before .before .before .before .before .before .before .before .before .before .before .before .args .out .now in
-    let lo : 5904 ≤ length o = omega arith in
-    let ln : 5904 ≤ length n = omega arith in
-    let lu : 5904 ≤ length u = omega arith in
+    let lo : tableLength ≤ length o = omega arith in
+    let ln : tableLength ≤ length n = omega arith in
+    let lu : tableLength ≤ length u = omega arith in
     let z : 0 ≡ mergeOrder false false false (not (whole o)) (not (whole n)) (decode o .merged) (decode n .merged) (mergePassesLimit (decode o) (decode n)) = sym (c .before .if4 .left) ∙ c .before .before .before .before .before .before .judged .ensures in
     let N = answer.none o n u lo ln lu z in
     let wo : whole o ≡ true = answer.not-no (whole o) (N .oldNotWhole) in
@@ -76,9 +77,9 @@ returns-5 c =
     let o = c .before .before .before .before .before .before .before .before .before .before .before .before .before .before .before .before .args .old .now in
     let n = c .before .before .before .before .before .before .before .before .before .before .before .before .before .before .before .before .args .new .now in
     let u = c .before .before .before .before .before .before .before .before .before .before .before .before .before .before .before .before .args .out .now in
-    let lo : 5904 ≤ length o = omega arith in
-    let ln : 5904 ≤ length n = omega arith in
-    let lu : 5904 ≤ length u = omega arith in
+    let lo : tableLength ≤ length o = omega arith in
+    let ln : tableLength ≤ length n = omega arith in
+    let lu : tableLength ≤ length u = omega arith in
     let z : 0 ≡ mergeOrder false false false (not (whole o)) (not (whole n)) (decode o .merged) (decode n .merged) (mergePassesLimit (decode o) (decode n)) = sym (c .before .before .before .before .if4 .left) ∙ c .before .before .before .before .before .before .before .before .before .judged .ensures in
     let N = answer.none o n u lo ln lu z in
     let wo : whole o ≡ true = answer.not-no (whole o) (N .oldNotWhole) in

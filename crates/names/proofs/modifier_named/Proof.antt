@@ -2,7 +2,7 @@
 use native.Mathlib.Omega.{arith}
 use mathlib.Core.Path.{sym, ap, _∙_}
 use Rattle.model.specs.declared.names.ModifierName.{ModifierName}
-use Rattle.names.specs.Table.{modifierAt}
+use Rattle.names.specs.Table.{modifierRow}
 use Rattle.names.specs.Find.{meaningOf}
 use Rattle.names.proofs.Lookup.{found-within}
 use Rattle.names.proofs.Groups.{modifier-found}
@@ -26,12 +26,12 @@ enum-told c = search needs
 returns : tie.Need-returns
 returns c =
     c .modifier-at .ensures
-    ∙ ap (meaningOf modifierAt ModifierName.Unknown) (sym (c .before .before .i .given .1) ∙ c .before .before .before .before .find .ensures)
+    ∙ ap (meaningOf modifierRow ModifierName.Unknown) (sym (c .before .before .i .given .1) ∙ c .before .before .before .before .find .ensures)
     ∙ modifier-found (c .before .before .before .before .before .before .args .w .now)
 
 returns-2 : tie.Need-returns-2
 returns-2 c =
-    ap (meaningOf modifierAt ModifierName.Unknown) (sym (c .enum-told .given .1) ∙ c .before .before .find .ensures) ∙ modifier-found (c .before .before .before .before .args .w .now)
+    ap (meaningOf modifierRow ModifierName.Unknown) (sym (c .enum-told .given .1) ∙ c .before .before .find .ensures) ∙ modifier-found (c .before .before .before .before .args .w .now)
 
 pub modifier-named-spec : {M : Type 1} → statement M
 modifier-named-spec =

@@ -3,7 +3,7 @@ use borrow.Author.Needs.{needs}
 use native.Mathlib.Omega.{arith}
 use Prim.Native.Nat.{ℕ, _+_}
 use mathlib.Core.Path.{_≡_, ap, _∙_}
-use Rattle.check_table.specs.Places.{newlines, within, lineOf}
+use Rattle.check_table.specs.Places.{newlines, within, lineNumber}
 use Rattle.check_table.proofs.place.line_at.Statement.{statement}
 use Rattle.check_table.proofs.place.line_at.Tie as tie
 
@@ -17,7 +17,7 @@ add-result : tie.Need-add-result
 add-result c = search needs
 
 returns : tie.Need-returns
-unfolding lineOf
+unfolding lineNumber
 returns c =
     ap (λ (k : ℕ). k + 1)
     (c .count-newlines .ensures .0 ∙ ap (newlines (c .before .before .before .args .text .now)) (c .before .up-to .ensures .0))

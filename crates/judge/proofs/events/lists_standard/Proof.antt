@@ -1,7 +1,7 @@
 -- `judge::events::lists_standard` meets its contract.
 use mathlib.Core.Path.{ap₂}
 use mathlib.Core.Bool.{_||_}
-use Rattle.judge.specs.Judged.{hasStandard}
+use Rattle.judge.specs.Judged.{hasStandardBits}
 use borrow.Author.Needs.{needs}
 use Rattle.judge.proofs.events.lists_standard.Statement.{statement}
 use Rattle.judge.proofs.events.lists_standard.Tie as tie
@@ -19,7 +19,7 @@ bit-requires-4 : tie.Need-bit-requires-4
 bit-requires-4 c κs = search needs
 
 returns : tie.Need-returns
-unfolding hasStandard
+unfolding hasStandardBits
 returns c =
     ap₂ _||_ (ap₂ _||_ (c .before .before .before .bit .ensures) (c .before .before .bit2 .ensures))
     (ap₂ _||_ (c .before .bit3 .ensures) (c .bit4 .ensures))

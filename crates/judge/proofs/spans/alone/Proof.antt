@@ -2,13 +2,13 @@
 use mathlib.Core.Path.{_≡_, sym}
 use mathlib.Core.Bool.{Bool, true, false}
 use Rattle.judge.specs.Summary.{summaryOf}
-use Rattle.judge.specs.Spans.{loneList}
+use Rattle.judge.specs.Spans.{loneListOf}
 use Rattle.judge.proofs.Listed.{summary-none, summary-any}
 use Rattle.judge.proofs.spans.alone.Statement.{statement}
 use Rattle.judge.proofs.spans.alone.Tie as tie
 
 lone : (none : Bool)
-    → summaryOf (loneList none)
+    → summaryOf (loneListOf none)
     ≡ record { written = true; «others_clear» = none; colon = false; unknown = false; unbuilt = false; set = 0; clear = 0 }
 lone true = summary-none
 lone false = summary-any

@@ -1,7 +1,7 @@
--- `matcher::filter::begins` meets its contract.
+-- `matcher::filter::mayBegin` meets its contract.
 use mathlib.Core.Path.{ap₂}
 use mathlib.Core.Bool.{_&&_}
-use Rattle.matcher.specs.Filter.{begins}
+use Rattle.matcher.specs.Filter.{mayBegin}
 use borrow.Author.Needs.{needs}
 use Rattle.matcher.proofs.filter.begins.Statement.{statement}
 use Rattle.matcher.proofs.filter.begins.Tie as tie
@@ -13,7 +13,7 @@ suits-requires : tie.Need-suits-requires
 suits-requires c κs = search needs
 
 returns : tie.Need-returns
-unfolding begins
+unfolding mayBegin
 returns c = ap₂ _&&_ (c .before .seems .ensures) (c .suits .ensures)
 
 pub begins-spec : {M : Type 1} → statement M

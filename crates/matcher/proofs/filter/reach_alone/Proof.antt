@@ -3,8 +3,8 @@ use Prim.Native.Nat.{_-_, _≤_}
 use native.Mathlib.Omega.{arith}
 use mathlib.Core.Path.{_≡_}
 use denote.Ref.{now}
-use Rattle.tables.specs.Reading.{eventCount}
-use Rattle.matcher.specs.Filter.{begins}
+use Rattle.tables.specs.Reading.{eventTotal}
+use Rattle.matcher.specs.Filter.{mayBegin}
 use Rattle.matcher.proofs.TableFacts.{table-facts}
 use Rattle.matcher.proofs.FilterLaws.{Noted, noted-start, noted-step, noted-end}
 use borrow.Author.Needs.{needs}
@@ -12,7 +12,7 @@ use Rattle.matcher.proofs.filter.reach_alone.Statement.{statement}
 use Rattle.matcher.proofs.filter.reach_alone.Tie as tie
 
 abbrev Inv-loop : tie.InvT-loop
-Inv-loop table one n high₀ turned₀ i₀ high turned i = (i ≤ n) × (n ≤ 256) × Noted (begins table one) i high turned
+Inv-loop table one n high₀ turned₀ i₀ high turned i = (i ≤ n) × (n ≤ 256) × Noted (mayBegin table one) i high turned
 
 abbrev μ-loop : tie.MeasureT-loop
 μ-loop table one n high₀ turned₀ i₀ high turned i = n - i
@@ -23,7 +23,7 @@ event-count-requires c κs = table-facts _ (c .before .pre) .long
 loop-holds : tie.Need-loop-holds Inv-loop μ-loop
 loop-holds c =
     let f = table-facts _ (c .before .before .pre) .events in
-    (omega arith, omega (arith, c .event-count .ensures), noted-start (begins (now (c .before .before .args .table)) (c .before .before .args .one)))
+    (omega arith, omega (arith, c .event-count .ensures), noted-start (mayBegin (now (c .before .before .args .table)) (c .before .before .args .one)))
 
 begins-requires : tie.Need-begins-requires Inv-loop μ-loop
 begins-requires c κs = (table-facts _ (c .before .before .before .before .pre) .long, omega (arith, c .before .loop .inv .1))
@@ -44,7 +44,7 @@ loop-again : tie.Need-loop-again Inv-loop μ-loop
 loop-again c =
     let a = c .before .before .before .before .before .before .before .args in
     let v = c .before .before .before .before .loop in
-    (omega (arith, c .before .before .before .loop-test .taken), v .inv .1, noted-step (begins (now (a .table)) (a .one)) (v .i) (v .high) (v .turned) (v .inv .2) (c .before .before .begins .result) (c .before .before .begins .ensures) (c .before .end-at .result) (c .turned-at .result) (c .before .end-at .ensures) (c .turned-at .ensures))
+    (omega (arith, c .before .before .before .loop-test .taken), v .inv .1, noted-step (mayBegin (now (a .table)) (a .one)) (v .i) (v .high) (v .turned) (v .inv .2) (c .before .before .begins .result) (c .before .before .begins .ensures) (c .before .end-at .result) (c .turned-at .result) (c .before .end-at .ensures) (c .turned-at .ensures))
 
 low-of-requires : tie.Need-low-of-requires Inv-loop μ-loop
 low-of-requires c κs = search needs
@@ -53,8 +53,8 @@ returns : tie.Need-returns Inv-loop μ-loop
 returns c =
     let a = c .before .before .before .before .before .args in
     let v = c .before .before .loop in
-    let q : v .i ≡ eventCount (now (a .table)) = omega (arith, v .inv .0, c .before .before .before .event-count .ensures, c .before .loop-test .left) in
-    noted-end (begins (now (a .table)) (a .one)) (v .i) (eventCount (now (a .table))) (v .high) (v .turned) (c .low-of .result) (v .inv .2) q (c .low-of .ensures)
+    let q : v .i ≡ eventTotal (now (a .table)) = omega (arith, v .inv .0, c .before .before .before .event-count .ensures, c .before .loop-test .left) in
+    noted-end (mayBegin (now (a .table)) (a .one)) (v .i) (eventTotal (now (a .table))) (v .high) (v .turned) (c .low-of .result) (v .inv .2) q (c .low-of .ensures)
 
 pub reach-alone-spec : {M : Type 1} → statement M
 reach-alone-spec =

@@ -3,7 +3,7 @@ use Prim.Native.Nat.{ℕ, _-_, _≤_}
 use native.Mathlib.Omega.{arith}
 use mathlib.Core.Path.{_≡_, ap, _∙_}
 use denote.Ref.{now}
-use Rattle.tables.specs.Reading.{eventCount}
+use Rattle.tables.specs.Reading.{eventTotal}
 use Rattle.matcher.specs.Filter.{codeSeems, codeBegins}
 use Rattle.matcher.proofs.TableFacts.{table-facts}
 use Rattle.matcher.proofs.FilterLaws.{Noted, noted-start, noted-step, noted-end}
@@ -60,8 +60,8 @@ returns : tie.Need-returns Inv-loop μ-loop
 returns c =
     let a = c .before .before .before .before .before .args in
     let v = c .before .before .loop in
-    let q : v .i ≡ eventCount (now (a .table)) = omega (arith, v .inv .0, c .before .before .before .event-count .ensures, c .before .loop-test .left) in
-    noted-end (codeBegins (now (a .table)) (a .one)) (v .i) (eventCount (now (a .table))) (v .high) (v .turned) (c .low-of .result) (v .inv .2) q (c .low-of .ensures)
+    let q : v .i ≡ eventTotal (now (a .table)) = omega (arith, v .inv .0, c .before .before .before .event-count .ensures, c .before .loop-test .left) in
+    noted-end (codeBegins (now (a .table)) (a .one)) (v .i) (eventTotal (now (a .table))) (v .high) (v .turned) (c .low-of .result) (v .inv .2) q (c .low-of .ensures)
 
 pub reach-of-code-spec : {M : Type 1} → statement M
 reach-of-code-spec =

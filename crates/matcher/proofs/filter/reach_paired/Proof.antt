@@ -3,7 +3,7 @@ use Prim.Native.Nat.{_-_, _≤_}
 use native.Mathlib.Omega.{arith}
 use mathlib.Core.Path.{_≡_}
 use denote.Ref.{now}
-use Rattle.tables.specs.Reading.{eventCount}
+use Rattle.tables.specs.Reading.{eventTotal}
 use Rattle.matcher.specs.Filter.{pairs}
 use Rattle.matcher.proofs.TableFacts.{table-facts}
 use Rattle.matcher.proofs.FilterLaws.{Ended, ended-start, ended-step, ended-end}
@@ -47,8 +47,8 @@ returns : tie.Need-returns Inv-loop μ-loop
 returns c =
     let a = c .before .before .before .before .args in
     let v = c .before .loop in
-    let q : v .i ≡ eventCount (now (a .table)) = omega (arith, v .inv .0, c .before .before .event-count .ensures, c .loop-test .left) in
-    ended-end (pairs (now (a .table)) (a .one) (a .two)) (v .i) (eventCount (now (a .table))) (v .high) (v .inv .2) q
+    let q : v .i ≡ eventTotal (now (a .table)) = omega (arith, v .inv .0, c .before .before .event-count .ensures, c .loop-test .left) in
+    ended-end (pairs (now (a .table)) (a .one) (a .two)) (v .i) (eventTotal (now (a .table))) (v .high) (v .inv .2) q
 
 pub reach-paired-spec : {M : Type 1} → statement M
 reach-paired-spec =

@@ -3,7 +3,7 @@ use Prim.Native.Nat.{ℕ}
 use mathlib.Core.Path.{ap}
 use lib.Bits.{bitAnd}
 use lib.Dec.{eqb}
-use Rattle.tables.specs.Reading.{eventOf, eventAt}
+use Rattle.tables.specs.Reading.{eventFromWords, eventEntry}
 use Rattle.matcher.specs.Filter.{suits}
 use borrow.Author.Needs.{needs}
 use Rattle.matcher.proofs.filter.suits.Statement.{statement}
@@ -13,7 +13,7 @@ set-at-requires : tie.Need-set-at-requires
 set-at-requires c κs = search needs
 
 returns : tie.Need-returns
-unfolding suits eventAt eventOf
+unfolding suits eventEntry eventFromWords
 returns c = ap (λ (w : ℕ). eqb (bitAnd (c .before .before .before .args .s .state) w) w) (c .before .set-at .ensures)
 
 pub suits-spec : {M : Type 1} → statement M

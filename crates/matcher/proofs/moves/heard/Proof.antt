@@ -5,7 +5,7 @@ use mathlib.Core.Path.{_≡_, refl, sym, _∙_}
 use denote.Ref.{now}
 use Rattle.tables.specs.Reading.{decode}
 use Rattle.matcher.specs.declared.walk.Passed.{Passed}
-use Rattle.matcher.specs.Walk.{Ready}
+use Rattle.matcher.specs.Walk.{WalkReady}
 use Rattle.keyboard.specs.Maps.{mapNumbers}
 use Rattle.matcher.proofs.StateLaws.{state-facts}
 use Rattle.matcher.proofs.MoveLaws.{more-ready, heard-no, heard-yes}
@@ -15,7 +15,7 @@ use Rattle.matcher.proofs.moves.heard.Tie as tie
 
 -- the slots with the event are ready to be walked along
 ready : (c : tie.After-put-event)
-    → Ready (now (c .before .before .before .before .before .args .table)) (mapNumbers (now (c .before .before .before .before .before .args .map))) (c .put-event .last .0) (c .before .before .before .before .before .args .state .kept + 1)
+    → WalkReady (now (c .before .before .before .before .before .args .table)) (mapNumbers (now (c .before .before .before .before .before .args .map))) (c .put-event .last .0) (c .before .before .before .before .before .args .state .kept + 1)
 ready c =
     let a = c .before .before .before .before .before .args in
     let p = c .before .before .before .before .before .pre in

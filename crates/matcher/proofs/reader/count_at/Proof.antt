@@ -1,7 +1,7 @@
 -- `matcher::reader::count_at` meets its contract.
 use Prim.Native.Nat.{ℕ, _%_}
 use mathlib.Core.Path.{ap}
-use Rattle.tables.specs.Reading.{eventOf, eventAt}
+use Rattle.tables.specs.Reading.{eventFromWords, eventEntry}
 use borrow.Author.Needs.{needs}
 use Rattle.matcher.proofs.reader.count_at.Statement.{statement}
 use Rattle.matcher.proofs.reader.count_at.Tie as tie
@@ -16,7 +16,7 @@ cast-result : tie.Need-cast-result
 cast-result c = search needs
 
 returns : tie.Need-returns
-unfolding eventOf eventAt
+unfolding eventFromWords eventEntry
 returns c = ap (λ (w : ℕ). w % 256) (c .word-at .ensures)
 
 pub count-at-spec : {M : Type 1} → statement M

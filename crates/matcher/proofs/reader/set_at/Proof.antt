@@ -1,5 +1,5 @@
 -- `matcher::reader::set_at` meets its contract.
-use Rattle.tables.specs.Reading.{eventOf, eventAt}
+use Rattle.tables.specs.Reading.{eventFromWords, eventEntry}
 use borrow.Author.Needs.{needs}
 use Rattle.matcher.proofs.reader.set_at.Statement.{statement}
 use Rattle.matcher.proofs.reader.set_at.Tie as tie
@@ -11,7 +11,7 @@ word-at-requires : tie.Need-word-at-requires
 word-at-requires c κs = search needs
 
 returns : tie.Need-returns
-unfolding eventOf eventAt
+unfolding eventFromWords eventEntry
 returns c = c .word-at .ensures
 
 pub set-at-spec : {M : Type 1} → statement M

@@ -4,7 +4,7 @@ use native.Mathlib.Omega.{arith}
 use mathlib.Core.Path.{_≡_, sym, _∙_}
 use denote.Ref.{now}
 use borrow.Author.Tests.{not-true, not-false}
-use Rattle.tables.specs.Reading.{eventAt}
+use Rattle.tables.specs.Reading.{eventEntry}
 use Rattle.matcher.specs.Walk.{elementOf}
 use Rattle.keyboard.specs.Maps.{mapNumbers}
 use Rattle.matcher.proofs.TableFacts.{table-facts}
@@ -14,12 +14,12 @@ use Rattle.matcher.proofs.walk.element_fits.Statement.{statement}
 use Rattle.matcher.proofs.walk.element_fits.Tie as tie
 
 code-is : (c : tie.After-element-code)
-    → c .element-code .result ≡ elementOf (eventAt (now (c .before .before .before .before .before .args .table)) (c .before .before .before .before .before .args .i)) (c .before .before .before .before .before .args .k) .code
+    → c .element-code .result ≡ elementOf (eventEntry (now (c .before .before .before .before .before .args .table)) (c .before .before .before .before .before .args .i)) (c .before .before .before .before .before .args .k) .code
 unfolding elementOf
 code-is c = c .element-code .ensures ∙ rw (c .before .before .code-at .ensures, c .before .count-at .ensures)
 
 timed-is : (c : tie.After-is-timed)
-    → c .is-timed .result ≡ elementOf (eventAt (now (c .before .before .before .before .before .before .before .before .before .before .args .table)) (c .before .before .before .before .before .before .before .before .before .before .args .i)) (c .before .before .before .before .before .before .before .before .before .before .args .k) .timed
+    → c .is-timed .result ≡ elementOf (eventEntry (now (c .before .before .before .before .before .before .before .before .before .before .args .table)) (c .before .before .before .before .before .before .before .before .before .before .args .i)) (c .before .before .before .before .before .before .before .before .before .before .args .k) .timed
 unfolding elementOf
 timed-is c = c .is-timed .ensures ∙ rw (c .before .before .before .before .before .before .before .code-at .ensures, c .before .before .before .before .before .before .count-at .ensures)
 
@@ -45,7 +45,7 @@ element-code-requires c κs =
 returns : tie.Need-returns
 returns c =
     let a = c .before .before .before .before .before .before .before .args in
-    sym (fits-other (mapNumbers (now (a .map))) (a .limit) (a .before) (eventAt (now (a .table)) (a .i)) (a .k) (a .x) (λ h. c .if1 .taken (code-is (c .before .before) ∙ h)))
+    sym (fits-other (mapNumbers (now (a .map))) (a .limit) (a .before) (eventEntry (now (a .table)) (a .i)) (a .k) (a .x) (λ h. c .if1 .taken (code-is (c .before .before) ∙ h)))
 
 event-meets-requires : tie.Need-event-meets-requires
 event-meets-requires c κs = search needs
@@ -53,7 +53,7 @@ event-meets-requires c κs = search needs
 returns-2 : tie.Need-returns-2
 returns-2 c =
     let a = c .before .before .before .before .before .before .before .before .before .args in
-    sym (fits-not (mapNumbers (now (a .map))) (a .limit) (a .before) (eventAt (now (a .table)) (a .i)) (a .k) (a .x)
+    sym (fits-not (mapNumbers (now (a .map))) (a .limit) (a .before) (eventEntry (now (a .table)) (a .i)) (a .k) (a .x)
     (sym (code-is (c .before .before .before .before)) ∙ c .before .before .if1 .left) (sym (c .before .event-meets .ensures) ∙ not-true _ (c .if2 .taken)))
 
 is-timed-requires : tie.Need-is-timed-requires
@@ -66,7 +66,7 @@ is-timed-requires c κs =
 returns-3 : tie.Need-returns-3
 returns-3 c =
     let a = c .before .before .before .before .before .before .before .before .before .before .before .args in
-    sym (fits-untimed (mapNumbers (now (a .map))) (a .limit) (a .before) (eventAt (now (a .table)) (a .i)) (a .k) (a .x)
+    sym (fits-untimed (mapNumbers (now (a .map))) (a .limit) (a .before) (eventEntry (now (a .table)) (a .i)) (a .k) (a .x)
     (sym (code-is (c .before .before .before .before .before .before)) ∙ c .before .before .before .before .if1 .left) (sym (c .before .before .before .event-meets .ensures) ∙ not-false _ (c .before .before .if2 .left))
     (sym (timed-is (c .before)) ∙ not-true _ (c .if3 .taken)))
 
@@ -77,7 +77,7 @@ returns-4 : tie.Need-returns-4
 returns-4 c =
     let a = c .before .before .before .before .before .before .before .before .before .before .before .before .args in
     c .quick .ensures
-    ∙ sym (fits-timed (mapNumbers (now (a .map))) (a .limit) (a .before) (eventAt (now (a .table)) (a .i)) (a .k) (a .x)
+    ∙ sym (fits-timed (mapNumbers (now (a .map))) (a .limit) (a .before) (eventEntry (now (a .table)) (a .i)) (a .k) (a .x)
     (sym (code-is (c .before .before .before .before .before .before .before)) ∙ c .before .before .before .before .before .if1 .left) (sym (c .before .before .before .before .event-meets .ensures) ∙ not-false _ (c .before .before .before .if2 .left))
     (sym (timed-is (c .before .before)) ∙ not-false _ (c .before .if3 .left)))
 

@@ -8,7 +8,7 @@ use mathlib.Core.List.{List}
 use borrow.Author.Tests.{not-true, not-false}
 use Rattle.model.specs.declared.events.Event.{Event}
 use Rattle.model.specs.Modifiers.{stateMeets}
-use Rattle.tables.specs.Reading.{isFlag, eventAt}
+use Rattle.tables.specs.Reading.{isFlag, eventEntry}
 use Rattle.matcher.specs.Walk.{detailAsked, flagsIn}
 use Rattle.keyboard.specs.Maps.{mapNumbers}
 use Rattle.matcher.proofs.TableFacts.{table-facts}
@@ -20,8 +20,8 @@ use Rattle.matcher.proofs.walk.event_meets.Tie as tie
 -- what the call of state_meets says
 state-met : (c : tie.After-state-meets)
     → c .state-meets .result
-    ≡ stateMeets (eventAt (now (c .before .before .before .before .before .before .before .args .table)) (c .before .before .before .before .before .before .before .args .i) .set)
-    (eventAt (now (c .before .before .before .before .before .before .before .args .table)) (c .before .before .before .before .before .before .before .args .i) .clear)
+    ≡ stateMeets (eventEntry (now (c .before .before .before .before .before .before .before .args .table)) (c .before .before .before .before .before .before .before .args .i) .set)
+    (eventEntry (now (c .before .before .before .before .before .before .before .args .table)) (c .before .before .before .before .before .before .before .args .i) .clear)
     (isFlag 2 (flagsIn (now (c .before .before .before .before .before .before .before .args .table)) (c .before .before .before .before .before .before .before .args .i)))
     (c .before .before .before .before .before .before .before .args .x .state)
 state-met c =

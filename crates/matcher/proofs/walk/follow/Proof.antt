@@ -6,7 +6,7 @@ use denote.Ref.{now}
 use borrow.Author.Tests.{not-true, not-false}
 use lib.ListN.{length, getD}
 use Rattle.model.specs.declared.events.Event.{Event}
-use Rattle.tables.specs.Reading.{eventCount, eventAt}
+use Rattle.tables.specs.Reading.{eventTotal, eventEntry}
 use Rattle.keyboard.specs.Maps.{mapNumbers}
 use Rattle.matcher.specs.State.{zeroEvent, slotsOf}
 use Rattle.matcher.specs.Walk.{elementOf, fitsAfter}
@@ -59,20 +59,20 @@ fit-is : (c : tie.After-element-fits Inv-loop μ-loop)
     → c .element-fits .result
     ≡ fitsAfter (mapNumbers (now (c .before .before .before .before .before .before .before .before .before .before .args .map))) (c .before .before .before .before .before .before .before .before .before .before .args .limit)
     (getD (slotsOf (now (c .before .before .before .before .before .before .before .before .before .before .args .events))) (c .before .before .two-before .result) zeroEvent .time)
-    (elementOf (eventAt (now (c .before .before .before .before .before .before .before .before .before .before .args .table)) (c .before .before .before .before .before .before .loop .i)) (c .before .before .before .before .before .before .loop .k))
+    (elementOf (eventEntry (now (c .before .before .before .before .before .before .before .before .before .before .args .table)) (c .before .before .before .before .before .before .loop .i)) (c .before .before .before .before .before .before .loop .k))
     (getD (slotsOf (now (c .before .before .before .before .before .before .before .before .before .before .args .events))) (c .before .before .before .before .before .before .loop .j) zeroEvent)
 fit-is c =
     let a = c .before .before .before .before .before .before .before .before .before .before .args in
     let m : c .before .before .two-before .result < 25 = omega (arith, c .before .before .before .before .before .before .before .before .before .before .pre .0 .room, c .before .before .before .before .before .loop-test .taken, c .before .before .two-before .ensures .0) in
     c .element-fits .ensures
-    ∙ ap₂ (λ (b x : Event). fitsAfter (mapNumbers (now (a .map))) (a .limit) (b .time) (elementOf (eventAt (now (a .table)) (c .before .before .before .before .before .before .loop .i)) (c .before .before .before .before .before .before .loop .k)) x)
+    ∙ ap₂ (λ (b x : Event). fitsAfter (mapNumbers (now (a .map))) (a .limit) (b .time) (elementOf (eventEntry (now (a .table)) (c .before .before .before .before .before .before .loop .i)) (c .before .before .before .before .before .before .loop .k)) x)
     (c .before .event-at2 .ensures ∙ in-slot (now (a .events)) (c .before .before .two-before .result) m) (read-is (c .before .before .before))
 
 element-fits-requires : tie.Need-element-fits-requires Inv-loop μ-loop
 element-fits-requires c κs =
     let p = c .before .before .before .before .before .before .before .before .before .pre in
     let v = c .before .before .before .before .before .loop in
-    let h : v .i < eventCount (now (c .before .before .before .before .before .before .before .before .before .args .table)) = omega (arith, p .2) in
+    let h : v .i < eventTotal (now (c .before .before .before .before .before .before .before .before .before .args .table)) = omega (arith, p .2) in
     ((p .0 .isWhole, h), (p .0 .mapped, rw (read-is (c .before .before)) (p .0 .ranges (v .j) (c .before .before .before .before .loop-test .taken))))
 
 returns-2 : tie.Need-returns-2 Inv-loop μ-loop
@@ -91,7 +91,7 @@ size-at-requires : tie.Need-size-at-requires Inv-loop μ-loop
 size-at-requires c κs =
     let p = c .before .before .before .before .before .before .before .before .before .before .before .pre in
     let v = c .before .before .before .before .before .before .before .loop in
-    let h : v .i < eventCount (now (c .before .before .before .before .before .before .before .before .before .before .before .args .table)) = omega (arith, p .2) in
+    let h : v .i < eventTotal (now (c .before .before .before .before .before .before .before .before .before .before .before .args .table)) = omega (arith, p .2) in
     (p .0 .isWhole, h)
 
 add-i : tie.Need-add-i Inv-loop μ-loop

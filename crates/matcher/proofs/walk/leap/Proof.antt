@@ -2,7 +2,7 @@
 use Prim.Native.Nat.{_+_, _-_, _≤_}
 use native.Mathlib.Omega.{arith}
 use denote.Ref.{now}
-use Rattle.tables.specs.Reading.{productionCount}
+use Rattle.tables.specs.Reading.{productionTotal}
 use Rattle.matcher.specs.Walk.{Skipped}
 use Rattle.matcher.proofs.TableFacts.{table-facts}
 use Rattle.matcher.proofs.PassLaws.{skipped-start, skipped-leap, past-most}
@@ -16,7 +16,7 @@ abbrev μ-loop : tie.MeasureT-loop
 μ-loop table n low at₀ p₀ at p = n - p
 
 -- sixteen productions more are among the table's
-among : (c : tie.In-loop Inv-loop μ-loop) → c .before .loop .p + 16 ≤ productionCount (now (c .before .before .before .args .table))
+among : (c : tie.In-loop Inv-loop μ-loop) → c .before .loop .p + 16 ≤ productionTotal (now (c .before .before .before .args .table))
 among c = omega (arith, c .loop-test .taken, c .before .before .before .pre .1)
 
 loop-holds : tie.Need-loop-holds Inv-loop μ-loop

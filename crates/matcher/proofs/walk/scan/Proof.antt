@@ -10,7 +10,7 @@ use Rattle.words.specs.Runs.{run}
 use Rattle.keyboard.specs.Maps.{mapNumbers}
 use Rattle.model.specs.Counts.{expanded}
 use Rattle.model.specs.declared.events.Event.{Event}
-use Rattle.tables.specs.Reading.{productionCount, eventAt}
+use Rattle.tables.specs.Reading.{productionTotal, eventEntry}
 use Rattle.matcher.specs.declared.walk.Followed.{Followed}
 use Rattle.matcher.specs.State.{slotsOf}
 use Rattle.matcher.specs.Walk.{walked}
@@ -45,7 +45,7 @@ stretch c = let a = c .before .before .before .before .before .before .before .b
 abbrev walk : (c : tie.After-production-events Inv-loop μ-loop) → Followed
 walk c =
     let a = c .before .before .before .before .before .before .before .before .before .before .before .args in
-    walked (mapNumbers (now (a .map))) (a .limit) none none (expanded (run (eventAt (now (a .table))) (c .before .before .before .loop .at) (c .production-events .result))) (stretch c)
+    walked (mapNumbers (now (a .map))) (a .limit) none none (expanded (run (eventEntry (now (a .table))) (c .before .before .before .loop .at) (c .production-events .result))) (stretch c)
 
 -- its first event does not pass the quick test
 another : (c : tie.Else2 Inv-loop μ-loop) → walk (c .before .before) ≡ Followed.No
@@ -194,7 +194,7 @@ returns-3 : tie.Need-returns-3 Inv-loop μ-loop
 returns-3 c =
     let a = c .before .before .before .before .before .before .before .before .before .before .args in
     let v = c .before .before .loop in
-    let h : productionCount (now (a .table)) ≤ v .p = omega (arith, c .before .before .before .before .before .before .production-count .ensures, c .before .loop-test .left) in
+    let h : productionTotal (now (a .table)) ≤ v .p = omega (arith, c .before .before .before .before .before .before .production-count .ensures, c .before .loop-test .left) in
     c .ended2 .ensures ∙ sym (passing-end (mapNumbers (now (a .map))) (a .limit) (now (a .table)) (drop (a .from) (take (a .to) (slotsOf (now (a .events))))) (v .seen) (v .at) (v .p) (v .inv) h)
 
 pub scan-spec : {M : Type 1} → statement M

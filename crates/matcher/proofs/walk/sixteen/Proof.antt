@@ -5,7 +5,7 @@ use mathlib.Core.Path.{_≡_, refl, sym, ap, ap₂, _∙_}
 use denote.Ref.{now}
 use Rattle.words.specs.Runs.{total}
 use Rattle.words.proofs.RunLaws.{total-more}
-use Rattle.tables.specs.Reading.{productionCount, productionEvents}
+use Rattle.tables.specs.Reading.{productionTotal, productionEvents}
 use Rattle.matcher.proofs.TableFacts.{table-facts}
 use Rattle.matcher.proofs.PassLaws.{span-most}
 use Rattle.matcher.proofs.walk.sixteen.Statement.{statement}
@@ -32,7 +32,7 @@ small c =
     let p = c .before .before .before .before .pre in
     let v = c .before .before .loop in
     let l = now (a .table) in
-    let h : a .p + v .i < productionCount l = omega (arith, p .1, c .before .loop-test .taken) in
+    let h : a .p + v .i < productionTotal l = omega (arith, p .1, c .before .loop-test .taken) in
     omega (arith, span-most l (table-facts l (p .0)) (a .p) (v .i) h, v .inv .2, word-is c)
 
 loop-holds : tie.Need-loop-holds Inv-loop μ-loop

@@ -8,19 +8,20 @@ use lib.ListN.{length}
 use borrow.Author.Tests.{not-true, not-false}
 use Rattle.model.specs.Merging.{sameEvent, sameEvents}
 use Rattle.words.specs.Runs.{run}
-use Rattle.tables.specs.Reading.{eventAt}
+use Rattle.tables.specs.Reading.{eventEntry}
 use Rattle.merger.proofs.Steps.{run-start, same-next, same-done, and-no, and-yes}
 use Rattle.merger.proofs.compare.same_events.Statement.{statement}
 use Rattle.merger.proofs.compare.same_events.Tie as tie
+use Rattle.tables.specs.Layout.{tableLength}
 
 abbrev Inv-loop : tie.InvT-loop
-Inv-loop l a other b n i₀ i = (i ≤ n) × (((5904 ≤ length l) × (a + n ≤ 256)) × ((5904 ≤ length other) × (b + n ≤ 256))) × (sameEvents (run (eventAt l) a n) (run (eventAt other) b n) ≡ sameEvents (run (eventAt l) (a + i) (n - i)) (run (eventAt other) (b + i) (n - i)))
+Inv-loop l a other b n i₀ i = (i ≤ n) × (((tableLength ≤ length l) × (a + n ≤ 256)) × ((tableLength ≤ length other) × (b + n ≤ 256))) × (sameEvents (run (eventEntry l) a n) (run (eventEntry other) b n) ≡ sameEvents (run (eventEntry l) (a + i) (n - i)) (run (eventEntry other) (b + i) (n - i)))
 
 abbrev μ-loop : tie.MeasureT-loop
 μ-loop l a other b n i₀ i = n - i
 
 loop-holds : tie.Need-loop-holds Inv-loop μ-loop
-loop-holds c = (search needs, search needs, sym (rw (run-start (eventAt (c .before .before .args .l .now)) (c .before .before .args .a) (c .before .before .args .n), run-start (eventAt (c .before .before .args .other .now)) (c .before .before .args .b) (c .before .before .args .n))))
+loop-holds c = (search needs, search needs, sym (rw (run-start (eventEntry (c .before .before .args .l .now)) (c .before .before .args .a) (c .before .before .args .n), run-start (eventEntry (c .before .before .args .other .now)) (c .before .before .args .b) (c .before .before .args .n))))
 
 add-event-at : tie.Need-add-event-at Inv-loop μ-loop
 add-event-at c = search needs
@@ -39,8 +40,8 @@ same-event-requires c κs = search needs
 
 returns : tie.Need-returns Inv-loop μ-loop
 returns c =
-    let L = eventAt (c .before .before .before .before .before .before .before .before .args .l .now) in
-    let O = eventAt (c .before .before .before .before .before .before .before .before .args .other .now) in
+    let L = eventEntry (c .before .before .before .before .before .before .before .before .args .l .now) in
+    let O = eventEntry (c .before .before .before .before .before .before .before .before .args .other .now) in
     let a = c .before .before .before .before .before .before .before .before .args .a in
     let b = c .before .before .before .before .before .before .before .before .args .b in
     let i = c .before .before .before .before .before .loop .i in
@@ -57,8 +58,8 @@ loop-less c = search needs
 
 loop-again : tie.Need-loop-again Inv-loop μ-loop
 loop-again c =
-    let L = eventAt (c .before .before .before .before .before .before .before .before .args .l .now) in
-    let O = eventAt (c .before .before .before .before .before .before .before .before .args .other .now) in
+    let L = eventEntry (c .before .before .before .before .before .before .before .before .args .l .now) in
+    let O = eventEntry (c .before .before .before .before .before .before .before .before .args .other .now) in
     let a = c .before .before .before .before .before .before .before .before .args .a in
     let b = c .before .before .before .before .before .before .before .before .args .b in
     let i = c .before .before .before .before .before .loop .i in
@@ -68,7 +69,7 @@ loop-again c =
     (search needs, search needs, m ∙ and-yes (sameEvent (L (a + i)) (O (b + i))) (sameEvents (run L (a + (i + 1)) (n - (i + 1))) (run O (b + (i + 1)) (n - (i + 1)))) e)
 
 returns-2 : tie.Need-returns-2 Inv-loop μ-loop
-returns-2 c = sym (c .before .loop .inv .2 ∙ same-done (eventAt (c .before .before .before .before .args .l .now)) (eventAt (c .before .before .before .before .args .other .now)) (c .before .before .before .before .args .a) (c .before .before .before .before .args .b) (c .before .before .before .before .args .n) (c .before .loop .i) (omega arith))
+returns-2 c = sym (c .before .loop .inv .2 ∙ same-done (eventEntry (c .before .before .before .before .args .l .now)) (eventEntry (c .before .before .before .before .args .other .now)) (c .before .before .before .before .args .a) (c .before .before .before .before .args .b) (c .before .before .before .before .args .n) (c .before .loop .i) (omega arith))
 
 pub same-events-spec : {M : Type 1} → statement M
 same-events-spec =

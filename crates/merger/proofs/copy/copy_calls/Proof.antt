@@ -6,7 +6,7 @@ use mathlib.Core.Path.{_≡_, refl, sym, _∙_}
 use mathlib.Core.Bool.{true}
 use lib.ListN.{length}
 use Rattle.words.specs.Runs.{run}
-use Rattle.tables.specs.Reading.{callCount, callAt, parameterAt, parametersFrom, callParameters}
+use Rattle.tables.specs.Reading.{callTotal, callEntry, parameterEntry, firstParameter, callParameters}
 use Rattle.tables.specs.Whole.{whole}
 use Rattle.merger.proofs.WholeFacts as facts
 use Rattle.merger.specs.Copying.{puts, putCallIn}
@@ -14,15 +14,16 @@ use Rattle.merger.proofs.Puts.{puts-start, puts-next, puts-done}
 use Rattle.words.proofs.RunLaws.{length-run}
 use Rattle.merger.proofs.copy.copy_calls.Statement.{statement}
 use Rattle.merger.proofs.copy.copy_calls.Tie as tie
+use Rattle.tables.specs.Layout.{tableLength}
 
 abbrev Inv-loop : tie.InvT-loop
-Inv-loop l from n second out₀ at i₀ out i = (i ≤ n) × (((whole l ≡ true) × (from + n ≤ callCount l)) × ((5904 ≤ length out₀) × (at + n ≤ 128))) × (length out ≡ length out₀) × (puts (putCallIn second) out₀ at (run (callAt l) from n) ≡ puts (putCallIn second) out (at + i) (run (callAt l) (from + i) (n - i)))
+Inv-loop l from n second out₀ at i₀ out i = (i ≤ n) × (((whole l ≡ true) × (from + n ≤ callTotal l)) × ((tableLength ≤ length out₀) × (at + n ≤ 128))) × (length out ≡ length out₀) × (puts (putCallIn second) out₀ at (run (callEntry l) from n) ≡ puts (putCallIn second) out (at + i) (run (callEntry l) (from + i) (n - i)))
 
 abbrev μ-loop : tie.MeasureT-loop
 μ-loop l from n second out₀ at i₀ out i = n - i
 
 loop-holds : tie.Need-loop-holds Inv-loop μ-loop
-loop-holds c = (search needs, c .before .before .pre, refl, puts-start (putCallIn (c .before .before .args .second)) (callAt (c .before .before .args .l .now)) (c .before .before .args .from) (c .before .before .args .at) (c .before .before .args .n) (c .before .before .args .out .now))
+loop-holds c = (search needs, c .before .before .pre, refl, puts-start (putCallIn (c .before .before .args .second)) (callEntry (c .before .before .args .l .now)) (c .before .before .args .from) (c .before .before .args .at) (c .before .before .args .n) (c .before .before .args .out .now))
 
 add-call-name : tie.Need-add-call-name Inv-loop μ-loop
 add-call-name c = let w = c .before .before .before .before .pre .0 .0 in let z = facts.long (c .before .before .before .before .args .l .now) w in let y = facts.few-calls (c .before .before .before .before .args .l .now) w in let x = facts.few-parameters (c .before .before .before .before .args .l .now) w in omega arith
@@ -54,21 +55,21 @@ loop-less : tie.Need-loop-less Inv-loop μ-loop
 loop-less c = search needs
 
 loop-again : tie.Need-loop-again Inv-loop μ-loop
-unfolding callAt
+unfolding callEntry
 loop-again c = (
   search needs,
   c .before .before .before .before .before .before .before .before .before .before .pre,
   c .before .before .put-call .kept .0 ∙ c .before .before .before .before .before .before .before .loop .inv .2,
   c .before .before .before .before .before .before .before .loop .inv .3
-      ∙ puts-next (putCallIn (c .before .before .before .before .before .before .before .before .before .before .args .second)) (callAt (c .before .before .before .before .before .before .before .before .before .before .args .l .now)) (c .before .before .before .before .before .before .before .before .before .before .args .from) (c .before .before .before .before .before .before .before .before .before .before .args .at) (c .before .before .before .before .before .before .before .before .before .before .args .n) (c .before .before .before .before .before .before .before .loop .out) (c .before .before .before .before .before .before .before .loop .i) (c .before .before .before .before .before .before .loop-test .taken)
-      ∙ rw (c .before .before .put-call .ensures, c .before .before .before .before .before .call-name .ensures, c .before .before .before .before .call-parameters .ensures, length-run (parameterAt (c .before .before .before .before .before .before .before .before .before .before .args .l .now)) (parametersFrom (c .before .before .before .before .before .before .before .before .before .before .args .l .now) (c .before .before .before .before .before .before .before .before .before .before .args .from + c .before .before .before .before .before .before .before .loop .i)) (callParameters (c .before .before .before .before .before .before .before .before .before .before .args .l .now) (c .before .before .before .before .before .before .before .before .before .before .args .from + c .before .before .before .before .before .before .before .loop .i))),
+      ∙ puts-next (putCallIn (c .before .before .before .before .before .before .before .before .before .before .args .second)) (callEntry (c .before .before .before .before .before .before .before .before .before .before .args .l .now)) (c .before .before .before .before .before .before .before .before .before .before .args .from) (c .before .before .before .before .before .before .before .before .before .before .args .at) (c .before .before .before .before .before .before .before .before .before .before .args .n) (c .before .before .before .before .before .before .before .loop .out) (c .before .before .before .before .before .before .before .loop .i) (c .before .before .before .before .before .before .loop-test .taken)
+      ∙ rw (c .before .before .put-call .ensures, c .before .before .before .before .before .call-name .ensures, c .before .before .before .before .call-parameters .ensures, length-run (parameterEntry (c .before .before .before .before .before .before .before .before .before .before .args .l .now)) (firstParameter (c .before .before .before .before .before .before .before .before .before .before .args .l .now) (c .before .before .before .before .before .before .before .before .before .before .args .from + c .before .before .before .before .before .before .before .loop .i)) (callParameters (c .before .before .before .before .before .before .before .before .before .before .args .l .now) (c .before .before .before .before .before .before .before .before .before .before .args .from + c .before .before .before .before .before .before .before .loop .i))),
 )
 
 same-length : tie.Need-same-length Inv-loop μ-loop
 same-length c = c .before .loop .inv .2
 
 returns : tie.Need-returns Inv-loop μ-loop
-returns c = sym (c .before .loop .inv .3 ∙ puts-done (putCallIn (c .before .before .before .before .args .second)) (callAt (c .before .before .before .before .args .l .now)) (c .before .before .before .before .args .from) (c .before .before .before .before .args .at) (c .before .before .before .before .args .n) (c .before .loop .out) (c .before .loop .i) (omega arith))
+returns c = sym (c .before .loop .inv .3 ∙ puts-done (putCallIn (c .before .before .before .before .args .second)) (callEntry (c .before .before .before .before .args .l .now)) (c .before .before .before .before .args .from) (c .before .before .before .before .args .at) (c .before .before .before .before .args .n) (c .before .loop .out) (c .before .loop .i) (omega arith))
 
 pub copy-calls-spec : {M : Type 1} → statement M
 copy-calls-spec =

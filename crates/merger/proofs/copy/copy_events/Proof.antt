@@ -5,22 +5,23 @@ use Prim.Native.Nat.{_+_, _-_, _≤_}
 use mathlib.Core.Path.{_≡_, refl, sym, _∙_}
 use lib.ListN.{length}
 use Rattle.words.specs.Runs.{run}
-use Rattle.tables.specs.Reading.{eventAt}
+use Rattle.tables.specs.Reading.{eventEntry}
 use Rattle.tables.specs.Whole.{whole}
 use Rattle.merger.specs.Copying.{puts}
 use Rattle.tables.specs.Writing.{putEvent}
 use Rattle.merger.proofs.Puts.{puts-start, puts-next, puts-done}
 use Rattle.merger.proofs.copy.copy_events.Statement.{statement}
 use Rattle.merger.proofs.copy.copy_events.Tie as tie
+use Rattle.tables.specs.Layout.{tableLength}
 
 abbrev Inv-loop : tie.InvT-loop
-Inv-loop l from n out₀ at i₀ out i = (i ≤ n) × (((5904 ≤ length l) × (from + n ≤ 256)) × ((5904 ≤ length out₀) × (at + n ≤ 256))) × (length out ≡ length out₀) × (puts putEvent out₀ at (run (eventAt l) from n) ≡ puts putEvent out (at + i) (run (eventAt l) (from + i) (n - i)))
+Inv-loop l from n out₀ at i₀ out i = (i ≤ n) × (((tableLength ≤ length l) × (from + n ≤ 256)) × ((tableLength ≤ length out₀) × (at + n ≤ 256))) × (length out ≡ length out₀) × (puts putEvent out₀ at (run (eventEntry l) from n) ≡ puts putEvent out (at + i) (run (eventEntry l) (from + i) (n - i)))
 
 abbrev μ-loop : tie.MeasureT-loop
 μ-loop l from n out₀ at i₀ out i = n - i
 
 loop-holds : tie.Need-loop-holds Inv-loop μ-loop
-loop-holds c = (search needs, c .before .before .pre, refl, puts-start putEvent (eventAt (c .before .before .args .l .now)) (c .before .before .args .from) (c .before .before .args .at) (c .before .before .args .n) (c .before .before .args .out .now))
+loop-holds c = (search needs, c .before .before .pre, refl, puts-start putEvent (eventEntry (c .before .before .args .l .now)) (c .before .before .args .from) (c .before .before .args .at) (c .before .before .args .n) (c .before .before .args .out .now))
 
 add-event-at : tie.Need-add-event-at Inv-loop μ-loop
 add-event-at c = search needs
@@ -46,7 +47,7 @@ loop-again c = (
   c .before .before .before .before .before .before .before .before .before .pre,
   c .before .before .put-event .kept .0 ∙ c .before .before .before .before .before .before .loop .inv .2,
   c .before .before .before .before .before .before .loop .inv .3
-      ∙ puts-next putEvent (eventAt (c .before .before .before .before .before .before .before .before .before .args .l .now)) (c .before .before .before .before .before .before .before .before .before .args .from) (c .before .before .before .before .before .before .before .before .before .args .at) (c .before .before .before .before .before .before .before .before .before .args .n) (c .before .before .before .before .before .before .loop .out) (c .before .before .before .before .before .before .loop .i) (c .before .before .before .before .before .loop-test .taken)
+      ∙ puts-next putEvent (eventEntry (c .before .before .before .before .before .before .before .before .before .args .l .now)) (c .before .before .before .before .before .before .before .before .before .args .from) (c .before .before .before .before .before .before .before .before .before .args .at) (c .before .before .before .before .before .before .before .before .before .args .n) (c .before .before .before .before .before .before .loop .out) (c .before .before .before .before .before .before .loop .i) (c .before .before .before .before .before .loop-test .taken)
       ∙ rw (c .before .before .put-event .ensures, c .before .before .before .before .event-at .ensures),
 )
 
@@ -54,7 +55,7 @@ same-length : tie.Need-same-length Inv-loop μ-loop
 same-length c = c .before .loop .inv .2
 
 returns : tie.Need-returns Inv-loop μ-loop
-returns c = sym (c .before .loop .inv .3 ∙ puts-done putEvent (eventAt (c .before .before .before .before .args .l .now)) (c .before .before .before .before .args .from) (c .before .before .before .before .args .at) (c .before .before .before .before .args .n) (c .before .loop .out) (c .before .loop .i) (omega arith))
+returns c = sym (c .before .loop .inv .3 ∙ puts-done putEvent (eventEntry (c .before .before .before .before .args .l .now)) (c .before .before .before .before .args .from) (c .before .before .before .before .args .at) (c .before .before .before .before .args .n) (c .before .loop .out) (c .before .loop .i) (omega arith))
 
 pub copy-events-spec : {M : Type 1} → statement M
 copy-events-spec =

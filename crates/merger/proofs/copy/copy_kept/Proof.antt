@@ -5,7 +5,7 @@ use Prim.Native.Nat.{_+_, _-_, _≤_, _<_}
 use mathlib.Core.Path.{_≡_, refl, sym, ap, _∙_, subst}
 use mathlib.Core.Bool.{Bool, not, cond}
 use lib.ListN.{length}
-use Rattle.tables.specs.Reading.{productionCount, productionAt}
+use Rattle.tables.specs.Reading.{productionTotal, productionEntry}
 use Rattle.tables.specs.Whole.{whole}
 use Rattle.merger.proofs.WholeFacts as facts
 use Rattle.merger.specs.Counting.{tallyOne, tallyAll, TallyRoom}
@@ -18,7 +18,7 @@ use Rattle.merger.proofs.copy.copy_kept.Statement.{statement}
 use Rattle.merger.proofs.copy.copy_kept.Tie as tie
 
 abbrev Inv-loop : tie.InvT-loop
-Inv-loop l other n second out₀ m t₀ p₀ out t p = (p ≤ m) × (m ≡ productionCount l) × (length out ≡ length out₀) × (tallyAll t₀ (keptFrom l 0 other n) ≡ tallyAll t (keptFrom l p other n)) × (putAll second out₀ t₀ (keptFrom l 0 other n) ≡ putAll second out t (keptFrom l p other n))
+Inv-loop l other n second out₀ m t₀ p₀ out t p = (p ≤ m) × (m ≡ productionTotal l) × (length out ≡ length out₀) × (tallyAll t₀ (keptFrom l 0 other n) ≡ tallyAll t (keptFrom l p other n)) × (putAll second out₀ t₀ (keptFrom l 0 other n) ≡ putAll second out t (keptFrom l p other n))
 
 abbrev μ-loop : tie.MeasureT-loop
 μ-loop l other n second out₀ m t₀ p₀ out t p = m - p
@@ -39,7 +39,7 @@ copy-if-requires c κs =
     let n = c .before .before .before .before .before .before .before .before .args .n in
     let p = c .before .before .before .loop .p in
     let t = c .before .before .before .loop .t in
-    let h : p < productionCount l = omega (arith, c .before .before .before .loop .inv .1) in (
+    let h : p < productionTotal l = omega (arith, c .before .before .before .loop .inv .1) in (
       (c .before .before .before .before .before .before .before .before .pre .0, h),
       (
         omega (arith, c .before .before .before .loop .inv .2, c .before .before .before .before .before .before .before .before .pre .2 .0),
@@ -62,8 +62,8 @@ loop-again c =
     let t = c .before .before .before .before .before .before .loop .t in
     let s = c .before .before .before .before .before .before .before .before .before .before .before .args .second in
     let out = c .before .before .before .before .before .before .loop .out in
-    let P = productionAt l p in
-    let h : p < productionCount l = omega (arith, c .before .before .before .before .before .before .loop .inv .1) in
+    let P = productionEntry l p in
+    let h : p < productionTotal l = omega (arith, c .before .before .before .before .before .before .loop .inv .1) in
     let k : c .before .before .copy-if .result ≡ cond (not (isAmong (firstOf o n) P)) (tallyOne t P) t = c .before .before .copy-if .ensures .0 ∙ ap (λ (b : Bool). cond (not b) (tallyOne t P) t) (c .before .before .before .before .is-among .ensures) in
     let j : c .before .before .copy-if .last .1 .1 .1 .1 .0 ≡ cond (not (isAmong (firstOf o n) P)) (putOne s out t P) out = c .before .before .copy-if .ensures .1 ∙ ap (λ (b : Bool). cond (not b) (putOne s out t P) out) (c .before .before .before .before .is-among .ensures) in (
       search needs,
@@ -83,7 +83,7 @@ returns c =
     let n = c .before .before .before .before .before .before .args .n in
     let p = c .before .loop .p in
     let t = c .before .loop .t in
-    let h : productionCount l ≤ p = omega (arith, c .before .loop .inv .1) in
+    let h : productionTotal l ≤ p = omega (arith, c .before .loop .inv .1) in
     (sym (c .before .loop .inv .3 ∙ tally-done l p o n h t), sym (c .before .loop .inv .4 ∙ put-done l p o n h (c .before .before .before .before .before .before .args .second) (c .before .loop .out) t))
 
 pub copy-kept-spec : {M : Type 1} → statement M

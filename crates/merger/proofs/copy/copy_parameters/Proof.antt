@@ -6,7 +6,7 @@ use mathlib.Core.Path.{_≡_, refl, sym, _∙_}
 use mathlib.Core.Bool.{true}
 use lib.ListN.{length}
 use Rattle.words.specs.Runs.{run}
-use Rattle.tables.specs.Reading.{parameterCount, parameterAt}
+use Rattle.tables.specs.Reading.{parameterTotal, parameterEntry}
 use Rattle.tables.specs.Whole.{whole}
 use Rattle.merger.proofs.WholeFacts as facts
 use Rattle.merger.specs.Copying.{puts}
@@ -14,15 +14,16 @@ use Rattle.tables.specs.Writing.{putParameter}
 use Rattle.merger.proofs.Puts.{puts-start, puts-next, puts-done}
 use Rattle.merger.proofs.copy.copy_parameters.Statement.{statement}
 use Rattle.merger.proofs.copy.copy_parameters.Tie as tie
+use Rattle.tables.specs.Layout.{tableLength}
 
 abbrev Inv-loop : tie.InvT-loop
-Inv-loop l from n out₀ at i₀ out i = (i ≤ n) × (((whole l ≡ true) × (from + n ≤ parameterCount l)) × ((5904 ≤ length out₀) × (at + n ≤ 256))) × (length out ≡ length out₀) × (puts putParameter out₀ at (run (parameterAt l) from n) ≡ puts putParameter out (at + i) (run (parameterAt l) (from + i) (n - i)))
+Inv-loop l from n out₀ at i₀ out i = (i ≤ n) × (((whole l ≡ true) × (from + n ≤ parameterTotal l)) × ((tableLength ≤ length out₀) × (at + n ≤ 256))) × (length out ≡ length out₀) × (puts putParameter out₀ at (run (parameterEntry l) from n) ≡ puts putParameter out (at + i) (run (parameterEntry l) (from + i) (n - i)))
 
 abbrev μ-loop : tie.MeasureT-loop
 μ-loop l from n out₀ at i₀ out i = n - i
 
 loop-holds : tie.Need-loop-holds Inv-loop μ-loop
-loop-holds c = (search needs, c .before .before .pre, refl, puts-start putParameter (parameterAt (c .before .before .args .l .now)) (c .before .before .args .from) (c .before .before .args .at) (c .before .before .args .n) (c .before .before .args .out .now))
+loop-holds c = (search needs, c .before .before .pre, refl, puts-start putParameter (parameterEntry (c .before .before .args .l .now)) (c .before .before .args .from) (c .before .before .args .at) (c .before .before .args .n) (c .before .before .args .out .now))
 
 add-parameter-span : tie.Need-add-parameter-span Inv-loop μ-loop
 add-parameter-span c = let w = c .before .before .before .before .pre .0 .0 in let z = facts.long (c .before .before .before .before .args .l .now) w in let y = facts.few-calls (c .before .before .before .before .args .l .now) w in let x = facts.few-parameters (c .before .before .before .before .args .l .now) w in omega arith
@@ -52,7 +53,7 @@ loop-again c = (
   c .before .before .before .before .before .before .before .before .before .pre,
   c .before .before .put-parameter .kept .0 ∙ c .before .before .before .before .before .before .loop .inv .2,
   c .before .before .before .before .before .before .loop .inv .3
-      ∙ puts-next putParameter (parameterAt (c .before .before .before .before .before .before .before .before .before .args .l .now)) (c .before .before .before .before .before .before .before .before .before .args .from) (c .before .before .before .before .before .before .before .before .before .args .at) (c .before .before .before .before .before .before .before .before .before .args .n) (c .before .before .before .before .before .before .loop .out) (c .before .before .before .before .before .before .loop .i) (c .before .before .before .before .before .loop-test .taken)
+      ∙ puts-next putParameter (parameterEntry (c .before .before .before .before .before .before .before .before .before .args .l .now)) (c .before .before .before .before .before .before .before .before .before .args .from) (c .before .before .before .before .before .before .before .before .before .args .at) (c .before .before .before .before .before .before .before .before .before .args .n) (c .before .before .before .before .before .before .loop .out) (c .before .before .before .before .before .before .loop .i) (c .before .before .before .before .before .loop-test .taken)
       ∙ rw (c .before .before .put-parameter .ensures, c .before .before .before .before .parameter-span .ensures),
 )
 
@@ -60,7 +61,7 @@ same-length : tie.Need-same-length Inv-loop μ-loop
 same-length c = c .before .loop .inv .2
 
 returns : tie.Need-returns Inv-loop μ-loop
-returns c = sym (c .before .loop .inv .3 ∙ puts-done putParameter (parameterAt (c .before .before .before .before .args .l .now)) (c .before .before .before .before .args .from) (c .before .before .before .before .args .at) (c .before .before .before .before .args .n) (c .before .loop .out) (c .before .loop .i) (omega arith))
+returns c = sym (c .before .loop .inv .3 ∙ puts-done putParameter (parameterEntry (c .before .before .before .before .args .l .now)) (c .before .before .before .before .args .from) (c .before .before .before .before .args .at) (c .before .before .before .before .args .n) (c .before .loop .out) (c .before .loop .i) (omega arith))
 
 pub copy-parameters-spec : {M : Type 1} → statement M
 copy-parameters-spec =

@@ -2,7 +2,7 @@
 use borrow.Author.Needs.{needs}
 use native.Mathlib.Omega.{arith}
 use mathlib.Core.Path.{_≡_}
-use Rattle.tables.specs.Reading.{productionAt}
+use Rattle.tables.specs.Reading.{productionEntry}
 use Rattle.merger.proofs.WholeFacts as facts
 use Rattle.merger.specs.Counting.{extentAt}
 use Rattle.merger.proofs.Extents as ext
@@ -14,7 +14,7 @@ extent-of-requires : tie.Need-extent-of-requires
 extent-of-requires c κs = search needs
 
 tally-one-requires : tie.Need-tally-one-requires
-tally-one-requires c κs = (c .before .before .before .pre .0 .0, c .before .before .before .pre .0 .1, room-below (c .before .before .before .args .t) (one-room (c .before .before .before .args .t) (productionAt (c .before .before .before .args .l .now) (c .before .before .before .args .p)) (c .before .before .before .pre .1 .1)))
+tally-one-requires c κs = (c .before .before .before .pre .0 .0, c .before .before .before .pre .0 .1, room-below (c .before .before .before .args .t) (one-room (c .before .before .before .args .t) (productionEntry (c .before .before .before .args .l .now) (c .before .before .before .args .p)) (c .before .before .before .pre .1 .1)))
 
 copy-events-requires : tie.Need-copy-events-requires
 copy-events-requires c κs =

@@ -7,7 +7,7 @@ use mathlib.Core.Bool.{true}
 use mathlib.Core.List.{[]}
 use lib.ListN.{length, length-append}
 use Rattle.words.specs.Runs.{run}
-use Rattle.tables.specs.Reading.{eventAt}
+use Rattle.tables.specs.Reading.{eventEntry}
 use Rattle.merger.proofs.Steps.{run-done, run-start, expanded-next}
 use Rattle.model.specs.Lists.{all}
 use Rattle.model.specs.Counts.{elementsOf, expanded}
@@ -16,19 +16,20 @@ use Rattle.counts.specs.Elements.{elementCount}
 use Rattle.merger.proofs.ElementSizes.{element-size, count-small, range-at}
 use Rattle.merger.proofs.count.expanded_of.Statement.{statement}
 use Rattle.merger.proofs.count.expanded_of.Tie as tie
+use Rattle.tables.specs.Layout.{tableLength}
 
 none-expanded : length (expanded []) ≡ 0
 unfolding expanded
 none-expanded = refl
 
 abbrev Inv-loop : tie.InvT-loop
-Inv-loop l from n s₀ i₀ s i = (i ≤ n) × ((5904 ≤ length l) × (from + n ≤ 256) × (all eventInRange (run (eventAt l) from n) ≡ true)) × (s ≤ 18 * i) × (length (expanded (run (eventAt l) from n)) ≡ s + length (expanded (run (eventAt l) (from + i) (n - i))))
+Inv-loop l from n s₀ i₀ s i = (i ≤ n) × ((tableLength ≤ length l) × (from + n ≤ 256) × (all eventInRange (run (eventEntry l) from n) ≡ true)) × (s ≤ 18 * i) × (length (expanded (run (eventEntry l) from n)) ≡ s + length (expanded (run (eventEntry l) (from + i) (n - i))))
 
 abbrev μ-loop : tie.MeasureT-loop
 μ-loop l from n s₀ i₀ s i = n - i
 
 loop-holds : tie.Need-loop-holds Inv-loop μ-loop
-loop-holds c = (search needs, c .before .pre, search needs, rw (run-start (eventAt (c .before .args .l .now)) (c .before .args .from) (c .before .args .n)) (omega arith))
+loop-holds c = (search needs, c .before .pre, search needs, rw (run-start (eventEntry (c .before .args .l .now)) (c .before .args .from) (c .before .args .n)) (omega arith))
 
 add-event-at : tie.Need-add-event-at Inv-loop μ-loop
 add-event-at c = search needs
@@ -37,11 +38,11 @@ event-at-requires : tie.Need-event-at-requires Inv-loop μ-loop
 event-at-requires c κs = search needs
 
 element-count-requires : tie.Need-element-count-requires Inv-loop μ-loop
-element-count-requires c κs = rw (c .event-at .ensures) (range-at (eventAt (c .before .before .before .before .args .l .now)) (c .before .before .before .before .args .from) (c .before .before .before .before .args .n) (c .before .before .loop .i) (c .before .before .before .before .pre .2) (c .before .loop-test .taken))
+element-count-requires c κs = rw (c .event-at .ensures) (range-at (eventEntry (c .before .before .before .before .args .l .now)) (c .before .before .before .before .args .from) (c .before .before .before .before .args .n) (c .before .before .loop .i) (c .before .before .before .before .pre .2) (c .before .loop-test .taken))
 
 add-s : tie.Need-add-s Inv-loop μ-loop
 add-s c =
-    let f = eventAt (c .before .before .before .before .before .args .l .now) in
+    let f = eventEntry (c .before .before .before .before .before .args .l .now) in
     let from = c .before .before .before .before .before .args .from in
     let n = c .before .before .before .before .before .args .n in
     let i = c .before .before .before .loop .i in
@@ -58,7 +59,7 @@ loop-less c = search needs
 
 loop-again : tie.Need-loop-again Inv-loop μ-loop
 loop-again c =
-    let f = eventAt (c .before .before .before .before .before .args .l .now) in
+    let f = eventEntry (c .before .before .before .before .before .args .l .now) in
     let from = c .before .before .before .before .before .args .from in
     let n = c .before .before .before .before .before .args .n in
     let i = c .before .before .before .loop .i in
@@ -73,7 +74,7 @@ loop-again c =
 
 returns : tie.Need-returns Inv-loop μ-loop
 returns c =
-    let d : run (eventAt (c .before .before .before .args .l .now)) (c .before .before .before .args .from + c .before .loop .i) (c .before .before .before .args .n - c .before .loop .i) ≡ [] = run-done (eventAt (c .before .before .before .args .l .now)) (c .before .before .before .args .from + c .before .loop .i) (c .before .before .before .args .n) (c .before .loop .i) (omega arith) in
+    let d : run (eventEntry (c .before .before .before .args .l .now)) (c .before .before .before .args .from + c .before .loop .i) (c .before .before .before .args .n - c .before .loop .i) ≡ [] = run-done (eventEntry (c .before .before .before .args .l .now)) (c .before .before .before .args .from + c .before .loop .i) (c .before .before .before .args .n) (c .before .loop .i) (omega arith) in
     sym (c .before .loop .inv .3 ∙ rw (d, none-expanded) (omega arith))
 
 pub expanded-of-spec : {M : Type 1} → statement M

@@ -4,7 +4,7 @@ use native.Mathlib.Omega.{arith}
 use Prim.Native.Nat.{_+_, _-_, _≤_}
 use mathlib.Core.Path.{_≡_, refl, sym, ap, _∙_, subst}
 use mathlib.Core.Bool.{Bool, not, cond}
-use Rattle.tables.specs.Reading.{productionCount, productionAt}
+use Rattle.tables.specs.Reading.{productionTotal, productionEntry}
 use Rattle.tables.specs.Whole.{whole}
 use Rattle.merger.proofs.WholeFacts as facts
 use Rattle.merger.specs.Counting.{tallyOne, tallyAll, TallyBelow}
@@ -17,7 +17,7 @@ use Rattle.merger.proofs.count.tally_kept.Statement.{statement}
 use Rattle.merger.proofs.count.tally_kept.Tie as tie
 
 abbrev Inv-loop : tie.InvT-loop
-Inv-loop l other n m t₀ p₀ t p = (p ≤ m) × (m ≡ productionCount l) × (tallyAll t₀ (keptFrom l 0 other n) ≡ tallyAll t (keptFrom l p other n))
+Inv-loop l other n m t₀ p₀ t p = (p ≤ m) × (m ≡ productionTotal l) × (tallyAll t₀ (keptFrom l 0 other n) ≡ tallyAll t (keptFrom l p other n))
 
 abbrev μ-loop : tie.MeasureT-loop
 μ-loop l other n m t₀ p₀ t p = m - p
@@ -53,7 +53,7 @@ loop-again c =
     let n = c .before .before .before .before .before .before .before .args .n in
     let p = c .before .before .before .loop .p in
     let t = c .before .before .before .loop .t in
-    let P = productionAt l p in
+    let P = productionEntry l p in
     let k : c .tally-if .result ≡ cond (not (isAmong (firstOf o n) P)) (tallyOne t P) t = c .tally-if .ensures ∙ ap (λ (b : Bool). cond (not b) (tallyOne t P) t) (c .before .is-among .ensures) in (
       search needs,
       c .before .before .before .loop .inv .1,

@@ -2,7 +2,7 @@
 use borrow.Author.Needs.{needs}
 use native.Mathlib.Omega.{arith}
 use mathlib.Core.Path.{_≡_, sym, _∙_}
-use Rattle.tables.specs.Reading.{productionCount, directiveIn}
+use Rattle.tables.specs.Reading.{productionTotal, directiveIn}
 use Rattle.merger.proofs.WholeFacts as facts
 use Rattle.model.specs.declared.events.Directive.{Directive}
 use Rattle.merger.proofs.Directives as by
@@ -28,7 +28,7 @@ production-count-requires : tie.Need-production-count-requires
 production-count-requires c κs = facts.long (c .before .before .before .before .before .before .args .new .now) (c .before .before .before .before .before .before .pre .1)
 
 tally-kept-requires-3 : tie.Need-tally-kept-requires-3
-tally-kept-requires-3 c κs = (c .before .before .before .before .before .before .before .pre .0, (c .before .before .before .before .before .before .before .pre .1, omega (arith, c .production-count .ensures)), rw (c .before .tally-kept2 .ensures, c .production-count .ensures) (by.second-below (c .before .before .before .before .before .before .before .args .new .now) (c .before .before .before .before .before .before .before .pre .1) (c .before .before .before .before .before .before .before .args .old .now) 0 (c .before .before .before .before .before .before .before .args .old .now) (c .before .before .before .before .before .before .before .pre .0) (c .before .before .before .before .before .before .before .args .new .now) (productionCount (c .before .before .before .before .before .before .before .args .new .now))))
+tally-kept-requires-3 c κs = (c .before .before .before .before .before .before .before .pre .0, (c .before .before .before .before .before .before .before .pre .1, omega (arith, c .production-count .ensures)), rw (c .before .tally-kept2 .ensures, c .production-count .ensures) (by.second-below (c .before .before .before .before .before .before .before .args .new .now) (c .before .before .before .before .before .before .before .pre .1) (c .before .before .before .before .before .before .before .args .old .now) 0 (c .before .before .before .before .before .before .before .args .old .now) (c .before .before .before .before .before .before .before .pre .0) (c .before .before .before .before .before .before .before .args .new .now) (productionTotal (c .before .before .before .before .before .before .before .args .new .now))))
 
 enum-told-3 : tie.Need-enum-told-3
 enum-told-3 c = search needs
@@ -40,7 +40,7 @@ production-count-requires-2 : tie.Need-production-count-requires-2
 production-count-requires-2 c κs = facts.long (c .before .before .before .before .before .before .args .old .now) (c .before .before .before .before .before .before .pre .0)
 
 tally-kept-requires-5 : tie.Need-tally-kept-requires-5
-tally-kept-requires-5 c κs = (c .before .before .before .before .before .before .before .pre .1, (c .before .before .before .before .before .before .before .pre .0, omega (arith, c .production-count2 .ensures)), rw (c .before .tally-kept4 .ensures, c .production-count2 .ensures) (by.second-below (c .before .before .before .before .before .before .before .args .old .now) (c .before .before .before .before .before .before .before .pre .0) (c .before .before .before .before .before .before .before .args .new .now) 0 (c .before .before .before .before .before .before .before .args .new .now) (c .before .before .before .before .before .before .before .pre .1) (c .before .before .before .before .before .before .before .args .old .now) (productionCount (c .before .before .before .before .before .before .before .args .old .now))))
+tally-kept-requires-5 c κs = (c .before .before .before .before .before .before .before .pre .1, (c .before .before .before .before .before .before .before .pre .0, omega (arith, c .production-count2 .ensures)), rw (c .before .tally-kept4 .ensures, c .production-count2 .ensures) (by.second-below (c .before .before .before .before .before .before .before .args .old .now) (c .before .before .before .before .before .before .before .pre .0) (c .before .before .before .before .before .before .before .args .new .now) 0 (c .before .before .before .before .before .before .before .args .new .now) (c .before .before .before .before .before .before .before .pre .1) (c .before .before .before .before .before .before .before .args .old .now) (productionTotal (c .before .before .before .before .before .before .before .args .old .now))))
 
 returns : tie.Need-returns
 returns c =

@@ -2,7 +2,7 @@
 use borrow.Author.Needs.{needs}
 use native.Mathlib.Omega.{arith}
 use mathlib.Core.Path.{_≡_}
-use Rattle.tables.specs.Reading.{eventAt}
+use Rattle.tables.specs.Reading.{eventEntry}
 use Rattle.merger.proofs.WholeFacts as facts
 use Rattle.merger.specs.Counting.{extentAt}
 use Rattle.merger.proofs.Extents as ext
@@ -41,7 +41,7 @@ add-t10 c =
     let E : c .before .before .before .before .extent-of .result ≡ extentAt l p = c .before .before .before .before .extent-of .ensures in
     let W = ext.within l p (c .before .before .before .before .before .before .pre .0) (c .before .before .before .before .before .before .pre .1) (c .before .before .before .before .extent-of .result) E in
     let B = c .before .before .before .before .before .before .pre .2 in
-    let k = size-below (eventAt l) (c .before .before .before .before .extent-of .result .event) (c .before .before .before .before .extent-of .result .events) (W .range) in
+    let k = size-below (eventEntry l) (c .before .before .before .before .extent-of .result .event) (c .before .before .before .before .extent-of .result .events) (W .range) in
     omega (arith, W .events, B .expanded, c .before .expanded-of .ensures)
 
 add-t11 : tie.Need-add-t11

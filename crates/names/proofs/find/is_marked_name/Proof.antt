@@ -6,7 +6,7 @@ use mathlib.Core.List.{List}
 use borrow.Author.Needs.{needs}
 use Rattle.model.specs.Lists.{same}
 use Rattle.model.proofs.Sameness.{same-eq}
-use Rattle.names.specs.Table.{nameAt, markOf}
+use Rattle.names.specs.Table.{nameRow, markOf}
 use Rattle.names.proofs.find.is_marked_name.Statement.{statement}
 use Rattle.names.proofs.find.is_marked_name.Tie as tie
 
@@ -21,7 +21,7 @@ returns : tie.Need-returns
 returns c =
     let a = c .before .before .args in
     let p = c .before .before .pre in
-    sym (other-mark (a .w .now) (nameAt (a .place)) (λ e. c .if1 .taken (p .1 ∙ e ∙ sym (p .2))))
+    sym (other-mark (a .w .now) (nameRow (a .place)) (λ e. c .if1 .taken (p .1 ∙ e ∙ sym (p .2))))
 
 is-name-requires : tie.Need-is-name-requires
 is-name-requires c κs = search needs

@@ -7,7 +7,7 @@ use mathlib.Core.List.{List}
 use lib.ListN.{length, drop, getD}
 use borrow.Author.Needs.{needs}
 use Rattle.model.specs.Lists.{same}
-use Rattle.names.specs.Table.{nameAt, nameText, nameStarts, nameLengths}
+use Rattle.names.specs.Table.{nameRow, nameText, nameStarts, nameLengths}
 use Rattle.names.proofs.Words.{same-more, same-stop, same-end, same-length}
 use Rattle.names.proofs.Places.{word-ends, word-length, word-byte}
 use Rattle.names.proofs.find.is_name.Statement.{statement}
@@ -20,14 +20,14 @@ Inv-loop w place len start text i₀ i =
     × (start ≡ getD nameStarts place 0)
     × (length w ≡ getD nameLengths place 0)
     × (text ≡ nameText)
-    × (same w (nameAt place) ≡ same (drop i w) (drop i (nameAt place)))
+    × (same w (nameRow place) ≡ same (drop i w) (drop i (nameRow place)))
 
 abbrev μ-loop : tie.MeasureT-loop
 μ-loop w place len start text i₀ i = length w - i
 
 -- a byte of the name, read from the text of all names
 byte-is : (place : ℕ) → place < 155 → (i : ℕ) → i < getD nameLengths place 0 → {start : ℕ} {text : List ℕ}
-    → start ≡ getD nameStarts place 0 → text ≡ nameText → getD (nameAt place) i 0 ≡ getD text (start + i) 0
+    → start ≡ getD nameStarts place 0 → text ≡ nameText → getD (nameRow place) i 0 ≡ getD text (start + i) 0
 byte-is place h i l p q = word-byte place h i l ∙ rw (p, q)
 
 name-length-requires : tie.Need-name-length-requires Inv-loop μ-loop
@@ -37,7 +37,7 @@ returns : tie.Need-returns Inv-loop μ-loop
 returns c =
     let a = c .before .before .before .args in
     sym
-    (same-length (a .w .now) (nameAt (a .place))
+    (same-length (a .w .now) (nameRow (a .place))
     (λ e. c .if1 .taken (e ∙ word-length (a .place) (search needs) ∙ sym (c .before .name-length .ensures))))
 
 name-start-requires : tie.Need-name-start-requires Inv-loop μ-loop
@@ -68,10 +68,10 @@ returns-2 c =
     let a = c .before .before .before .before .before .before .before .before .before .args in
     let i = c .before .before .before .loop .i in
     let inv = c .before .before .before .loop .inv in
-    let l : length (nameAt (a .place)) ≡ length (a .w .now) = word-length (a .place) (inv .1) ∙ sym (inv .3) in
+    let l : length (nameRow (a .place)) ≡ length (a .w .now) = word-length (a .place) (inv .1) ∙ sym (inv .3) in
     sym
     (inv .5
-    ∙ same-stop (a .w .now) (nameAt (a .place)) i (omega arith) (omega arith)
+    ∙ same-stop (a .w .now) (nameRow (a .place)) i (omega arith) (omega arith)
     (λ e. c .if2 .taken (e ∙ byte-is (a .place) (inv .1) i (omega (arith, inv .3)) (inv .2) (inv .4))))
 
 add-i : tie.Need-add-i Inv-loop μ-loop
@@ -85,14 +85,14 @@ loop-again c =
     let a = c .before .before .before .before .before .before .before .before .before .args in
     let i = c .before .before .before .loop .i in
     let inv = c .before .before .before .loop .inv in
-    let l : length (nameAt (a .place)) ≡ length (a .w .now) = word-length (a .place) (inv .1) ∙ sym (inv .3) in (
+    let l : length (nameRow (a .place)) ≡ length (a .w .now) = word-length (a .place) (inv .1) ∙ sym (inv .3) in (
       search needs,
       inv .1,
       inv .2,
       inv .3,
       inv .4,
       inv .5
-          ∙ same-more (a .w .now) (nameAt (a .place)) i (omega arith) (omega arith)
+          ∙ same-more (a .w .now) (nameRow (a .place)) i (omega arith) (omega arith)
           (c .if2 .left ∙ sym (byte-is (a .place) (inv .1) i (omega (arith, inv .3)) (inv .2) (inv .4))),
     )
 
@@ -100,8 +100,8 @@ returns-3 : tie.Need-returns-3 Inv-loop μ-loop
 returns-3 c =
     let a = c .before .before .before .before .before .before .before .args in
     let inv = c .before .loop .inv in
-    let l : length (nameAt (a .place)) ≡ length (a .w .now) = word-length (a .place) (inv .1) ∙ sym (inv .3) in
-    sym (inv .5 ∙ same-end (a .w .now) (nameAt (a .place)) (c .before .loop .i) (omega arith) (omega arith))
+    let l : length (nameRow (a .place)) ≡ length (a .w .now) = word-length (a .place) (inv .1) ∙ sym (inv .3) in
+    sym (inv .5 ∙ same-end (a .w .now) (nameRow (a .place)) (c .before .loop .i) (omega arith) (omega arith))
 
 pub is-name-spec : {M : Type 1} → statement M
 is-name-spec =

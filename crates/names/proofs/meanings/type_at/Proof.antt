@@ -1,5 +1,5 @@
 -- `names::meanings::type_at` meets its contract. Assumes nothing.
-use Rattle.names.specs.Table.{typeAt}
+use Rattle.names.specs.Table.{typeRow}
 use borrow.Author.Needs.{needs}
 use Rattle.names.proofs.meanings.type_at.Statement.{statement}
 use Rattle.names.proofs.meanings.type_at.Tie as tie
@@ -20,7 +20,7 @@ fixed-of-requires : tie.Need-fixed-of-requires
 fixed-of-requires c κs = search needs
 
 returns : tie.Need-returns
-unfolding typeAt
+unfolding typeRow
 returns c =
     rw (← c .before .type-detail .ensures, ← c .before .before .before .type-added .ensures, ← c .before .before .before .before .type-code .ensures, c .before .before .added-of .ensures, c .fixed-of .ensures)
 

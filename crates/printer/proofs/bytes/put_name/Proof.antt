@@ -6,7 +6,7 @@ use lib.ListN.{length, take, getD}
 use lib.Seq.{take-all}
 use mathlib.Core.Path.{_≡_, sym, ap, _∙_}
 use mathlib.Core.List.{_++_, _∷_, []}
-use Rattle.names.specs.Table.{nameAt, nameText, nameStarts, nameLengths}
+use Rattle.names.specs.Table.{nameRow, nameText, nameStarts, nameLengths}
 use Rattle.names.proofs.Places.{word-ends, word-length, word-byte}
 use Rattle.printer.specs.Overlay.{Put}
 use Rattle.printer.proofs.Laws.{put-none, put-then, put-as, put-length, take-more}
@@ -20,7 +20,7 @@ Inv-loop out₀ at place start len next₀ i₀ out next i =
     × (start ≡ getD nameStarts place 0)
     × (len ≡ getD nameLengths place 0)
     × (next ≡ at + i)
-    × Put out₀ out at next (take i (nameAt place))
+    × Put out₀ out at next (take i (nameRow place))
 
 abbrev μ-loop : tie.MeasureT-loop
 μ-loop out₀ at place start len next₀ i₀ out next i = len - i
@@ -59,13 +59,13 @@ loop-again c =
     let inv = w .inv in
     let p = c .before .before .put-byte .ensures in
     let l = word-length (a .place) (inv .1) in
-    let b : c .before .before .before .name-byte .result ≡ getD (nameAt (a .place)) (w .i) 0 =
+    let b : c .before .before .before .name-byte .result ≡ getD (nameRow (a .place)) (w .i) 0 =
     c .before .before .before .name-byte .ensures
     ∙ ap (λ (s : ℕ). getD nameText (s + w .i) 0) (inv .2)
     ∙ sym (word-byte (a .place) (inv .1) (w .i) (omega (arith, inv .3)))
     in
-    let t : take (w .i) (nameAt (a .place)) ++ (c .before .before .before .name-byte .result ∷ []) ≡ take (w .i + 1) (nameAt (a .place)) =
-    rw b (sym (take-more (nameAt (a .place)) (w .i) (omega (arith, l, inv .3))))
+    let t : take (w .i) (nameRow (a .place)) ++ (c .before .before .before .name-byte .result ∷ []) ≡ take (w .i + 1) (nameRow (a .place)) =
+    rw b (sym (take-more (nameRow (a .place)) (w .i) (omega (arith, l, inv .3))))
     in
     (search needs, inv .1, inv .2, inv .3, omega (arith, p .next), put-as t (put-then (inv .5) p))
 
@@ -77,7 +77,7 @@ returns c =
     let a = c .before .before .before .before .before .args in
     let inv = c .before .loop .inv in
     let l = word-length (a .place) (inv .1) in (
-      put-as (take-all (c .before .loop .i) (nameAt (a .place)) (omega (arith, l, inv .3))) (inv .5),
+      put-as (take-all (c .before .loop .i) (nameRow (a .place)) (omega (arith, l, inv .3))) (inv .5),
       omega (arith, word-ends (a .place) (inv .1), inv .3),
     )
 

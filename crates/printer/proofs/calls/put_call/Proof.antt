@@ -7,10 +7,10 @@ use mathlib.Core.List.{List, [], _∷_, _++_}
 use mathlib.Core.Bool.{Bool}
 use Prim.Native.Nat.{ℕ}
 use Rattle.words.specs.Runs.{run}
-use Rattle.model.specs.Asking.{bytesOf}
+use Rattle.model.specs.Asking.{partBytes}
 use Rattle.model.specs.Canonical.{joinedBy, each, parameterText, callText}
 use Rattle.model.specs.declared.scan.Span.{Span}
-use Rattle.tables.specs.Reading.{callAt, parameterAt, parametersFrom, callParameters, markAt, nameAt}
+use Rattle.tables.specs.Reading.{callEntry, parameterEntry, firstParameter, callParameters, markEntry, nameEntry}
 use Rattle.tables.proofs.WholeFacts.{WholeFacts}
 use Rattle.printer.proofs.ReadyFacts.{Within, ready-facts, name-within}
 use Rattle.printer.proofs.calls.put_call.Statement.{statement}
@@ -43,16 +43,16 @@ same-length : tie.Need-same-length
 same-length c = search needs
 
 returns : tie.Need-returns
-unfolding callText callAt
+unfolding callText callEntry
 returns c =
     let a = c .before .before .before .before .before .before .before .before .before .before .before .before .before .before .before .before .before .before .before .before .before .before .args in
     let o = c .before .before .before .before .before .before .before .before .before .before .before .before .before .before .put-span .ensures in
     let p = c .before .before .before .before .before .before .before .before .before .before .put-byte .ensures in
     let q = c .before .before .before .before .before .before .put-parameters .ensures in
     let r = c .before .before .put-byte2 .ensures in
-    let n : bytesOf (a .first .now) (a .second .now) (c .before .before .before .before .before .before .before .before .before .before .before .before .before .before .before .before .before .call-mark .result) (c .before .before .before .before .before .before .before .before .before .before .before .before .before .before .before .before .call-name .result) ≡ bytesOf (a .first .now) (a .second .now) (markAt (a .l .now) (a .i)) (nameAt (a .l .now) (a .i)) =
-    ap (λ (m : Bool). bytesOf (a .first .now) (a .second .now) m (c .before .before .before .before .before .before .before .before .before .before .before .before .before .before .before .before .call-name .result)) (c .before .before .before .before .before .before .before .before .before .before .before .before .before .before .before .before .before .call-mark .ensures)
-    ∙ ap (λ (s : Span). bytesOf (a .first .now) (a .second .now) (markAt (a .l .now) (a .i)) s) (c .before .before .before .before .before .before .before .before .before .before .before .before .before .before .before .before .call-name .ensures)
+    let n : partBytes (a .first .now) (a .second .now) (c .before .before .before .before .before .before .before .before .before .before .before .before .before .before .before .before .before .call-mark .result) (c .before .before .before .before .before .before .before .before .before .before .before .before .before .before .before .before .call-name .result) ≡ partBytes (a .first .now) (a .second .now) (markEntry (a .l .now) (a .i)) (nameEntry (a .l .now) (a .i)) =
+    ap (λ (m : Bool). partBytes (a .first .now) (a .second .now) m (c .before .before .before .before .before .before .before .before .before .before .before .before .before .before .before .before .call-name .result)) (c .before .before .before .before .before .before .before .before .before .before .before .before .before .before .before .before .before .call-mark .ensures)
+    ∙ ap (λ (s : Span). partBytes (a .first .now) (a .second .now) (markEntry (a .l .now) (a .i)) s) (c .before .before .before .before .before .before .before .before .before .before .before .before .before .before .before .before .call-name .ensures)
     in
     (put-then (put-as n (o .0)) (put-then p (put-then (q .0) r)), omega (arith, o .1, p .next, q .1, r .next))
 

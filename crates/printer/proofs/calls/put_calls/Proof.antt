@@ -7,7 +7,7 @@ use Prim.Native.Nat.{ℕ, _+_, _*_, _-_, _≤_}
 use mathlib.Core.List.{List, [], _∷_, _++_}
 use Rattle.words.specs.Runs.{run}
 use Rattle.model.specs.Canonical.{joinedBy, each, callText}
-use Rattle.tables.specs.Reading.{callAt}
+use Rattle.tables.specs.Reading.{callEntry}
 use Rattle.tables.proofs.WholeFacts.{WholeFacts}
 use Rattle.printer.specs.Overlay.{Put, separator}
 use Rattle.printer.proofs.RunJoined.{run-joined, run-joined-none}
@@ -19,7 +19,7 @@ abbrev Inv-loop : tie.InvT-loop
 Inv-loop out₀ at l first second from n next₀ k₀ out next k =
     (k ≤ n)
     × (next ≤ at + 74001 * k)
-    × Put out₀ out at next (joinedBy (32 ∷ []) (each (callText first second) (run (callAt l) from k)))
+    × Put out₀ out at next (joinedBy (32 ∷ []) (each (callText first second) (run (callEntry l) from k)))
 
 abbrev μ-loop : tie.MeasureT-loop
 μ-loop out₀ at l first second from n next₀ k₀ out next k = n - k
@@ -27,7 +27,7 @@ abbrev μ-loop : tie.MeasureT-loop
 loop-holds : tie.Need-loop-holds Inv-loop μ-loop
 loop-holds c =
     let a = c .before .before .before .before .args in
-    (search needs, search needs, put-as (run-joined-none (callText (a .first .now) (a .second .now)) 32 (callAt (a .l .now)) (a .from)) (put-none _ _))
+    (search needs, search needs, put-as (run-joined-none (callText (a .first .now) (a .second .now)) 32 (callEntry (a .l .now)) (a .from)) (put-none _ _))
 
 put-separator-requires : tie.Need-put-separator-requires Inv-loop μ-loop
 put-separator-requires c κs = omega (arith, c .before .before .loop .inv .1, c .before .before .before .before .before .before .before .pre .0, c .before .before .before .before .before .before .before .pre .3)
@@ -56,7 +56,7 @@ loop-again c =
     let q = c .before .before .put-call .ensures in (
       search needs,
       omega (arith, w .inv .1, p .1, q .1),
-      put-as (run-joined (callText (a .first .now) (a .second .now)) 32 (callAt (a .l .now)) (a .from) (w .k)) (put-then (w .inv .2) (put-then (p .0) (q .0))),
+      put-as (run-joined (callText (a .first .now) (a .second .now)) 32 (callEntry (a .l .now)) (a .from) (w .k)) (put-then (w .inv .2) (put-then (p .0) (q .0))),
     )
 
 same-length : tie.Need-same-length Inv-loop μ-loop
@@ -66,7 +66,7 @@ returns : tie.Need-returns Inv-loop μ-loop
 returns c =
     let a = c .before .before .before .before .before .before .args in
     let k : c .before .loop .k ≡ a .n = omega arith in (
-      put-as (ap (λ (n : ℕ). joinedBy (32 ∷ []) (each (callText (a .first .now) (a .second .now)) (run (callAt (a .l .now)) (a .from) n))) k) (c .before .loop .inv .2),
+      put-as (ap (λ (n : ℕ). joinedBy (32 ∷ []) (each (callText (a .first .now) (a .second .now)) (run (callEntry (a .l .now)) (a .from) n))) k) (c .before .loop .inv .2),
       omega (arith, c .before .loop .inv .1, c .before .before .before .before .before .before .pre .3),
     )
 

@@ -9,7 +9,7 @@ use mathlib.Core.Bool.{Bool}
 use Rattle.words.specs.Runs.{run}
 use Rattle.model.specs.Canonical.{joinedBy, each, parameterText}
 use Rattle.model.specs.declared.scan.Span.{Span}
-use Rattle.tables.specs.Reading.{parameterAt, parametersFrom, callParameters, markAt}
+use Rattle.tables.specs.Reading.{parameterEntry, firstParameter, callParameters, markEntry}
 use Rattle.tables.proofs.WholeFacts.{WholeFacts}
 use Rattle.printer.specs.Overlay.{Put, separator}
 use Rattle.printer.proofs.RunJoined.{run-joined, run-joined-none}
@@ -21,7 +21,7 @@ abbrev Inv-loop : tie.InvT-loop
 Inv-loop out₀ at l first second i mark from n next₀ k₀ out next k =
     (k ≤ n)
     × (next ≤ at + 8195 * k)
-    × Put out₀ out at next (joinedBy (44 ∷ []) (each (parameterText first second mark) (run (parameterAt l) from k)))
+    × Put out₀ out at next (joinedBy (44 ∷ []) (each (parameterText first second mark) (run (parameterEntry l) from k)))
 
 abbrev μ-loop : tie.MeasureT-loop
 μ-loop out₀ at l first second i mark from n next₀ k₀ out next k = n - k
@@ -40,7 +40,7 @@ loop-holds c =
     let a = c .before .before .before .before .before .before .before .args in (
       search needs,
       search needs,
-      put-as (run-joined-none (parameterText (a .first .now) (a .second .now) (c .before .before .call-mark .result)) 44 (parameterAt (a .l .now)) (c .before .parameters-from .result)) (put-none _ _),
+      put-as (run-joined-none (parameterText (a .first .now) (a .second .now) (c .before .before .call-mark .result)) 44 (parameterEntry (a .l .now)) (c .before .parameters-from .result)) (put-none _ _),
     )
 
 add-parameter-span : tie.Need-add-parameter-span Inv-loop μ-loop
@@ -87,8 +87,8 @@ loop-again c =
       search needs,
       omega (arith, w .inv .1, p .1, q .1),
       put-as
-          (ap (λ (s : Span). joinedBy (44 ∷ []) (each (parameterText (a .first .now) (a .second .now) mark) (run (parameterAt (a .l .now)) from (w .k))) ++ (separator 44 (w .k) ++ parameterText (a .first .now) (a .second .now) mark s)) (c .before .before .before .before .before .before .before .before .parameter-span .ensures)
-          ∙ run-joined (parameterText (a .first .now) (a .second .now) mark) 44 (parameterAt (a .l .now)) from (w .k))
+          (ap (λ (s : Span). joinedBy (44 ∷ []) (each (parameterText (a .first .now) (a .second .now) mark) (run (parameterEntry (a .l .now)) from (w .k))) ++ (separator 44 (w .k) ++ parameterText (a .first .now) (a .second .now) mark s)) (c .before .before .before .before .before .before .before .before .parameter-span .ensures)
+          ∙ run-joined (parameterText (a .first .now) (a .second .now) mark) 44 (parameterEntry (a .l .now)) from (w .k))
           (put-then (w .inv .2) (put-then (p .0) (q .0))),
     )
 
@@ -101,9 +101,9 @@ returns c =
     let f : WholeFacts (a .l .now) = ready-facts (c .before .before .before .before .before .before .before .before .before .args .l .now) (c .before .before .before .before .before .before .before .before .before .args .first .now) (c .before .before .before .before .before .before .before .before .before .args .second .now) (c .before .before .before .before .before .before .before .before .before .pre .1) in
     let k : c .before .loop .k ≡ callParameters (a .l .now) (a .i) = omega (arith, c .before .before .call-parameters .ensures) in (
       put-as
-          (ap (λ (m : Bool). joinedBy (44 ∷ []) (each (parameterText (a .first .now) (a .second .now) m) (run (parameterAt (a .l .now)) (c .before .before .before .parameters-from .result) (c .before .loop .k)))) (c .before .before .before .before .call-mark .ensures)
-          ∙ ap (λ (s : ℕ). joinedBy (44 ∷ []) (each (parameterText (a .first .now) (a .second .now) (markAt (a .l .now) (a .i))) (run (parameterAt (a .l .now)) s (c .before .loop .k)))) (c .before .before .before .parameters-from .ensures)
-          ∙ ap (λ (n : ℕ). joinedBy (44 ∷ []) (each (parameterText (a .first .now) (a .second .now) (markAt (a .l .now) (a .i))) (run (parameterAt (a .l .now)) (parametersFrom (a .l .now) (a .i)) n))) k)
+          (ap (λ (m : Bool). joinedBy (44 ∷ []) (each (parameterText (a .first .now) (a .second .now) m) (run (parameterEntry (a .l .now)) (c .before .before .before .parameters-from .result) (c .before .loop .k)))) (c .before .before .before .before .call-mark .ensures)
+          ∙ ap (λ (s : ℕ). joinedBy (44 ∷ []) (each (parameterText (a .first .now) (a .second .now) (markEntry (a .l .now) (a .i))) (run (parameterEntry (a .l .now)) s (c .before .loop .k)))) (c .before .before .before .parameters-from .ensures)
+          ∙ ap (λ (n : ℕ). joinedBy (44 ∷ []) (each (parameterText (a .first .now) (a .second .now) (markEntry (a .l .now) (a .i))) (run (parameterEntry (a .l .now)) (firstParameter (a .l .now) (a .i)) n))) k)
           (c .before .loop .inv .2),
       omega (arith, c .before .loop .inv .1, f .fewParameters (a .i) (c .before .before .before .before .before .before .before .before .before .pre .2), k),
     )

@@ -2,7 +2,7 @@
 use borrow.Author.Needs.{needs}
 use native.Mathlib.Omega.{arith}
 use borrow.Author.Tests.{lt-ltb, le-ltb, le-leb, lt-leb}
-use Rattle.printer.specs.Places.{nameOrNumber}
+use Rattle.printer.specs.Places.{placeOrNumber}
 use Rattle.printer.proofs.events.put_named.Statement.{statement}
 use Rattle.printer.proofs.events.put_named.Tie as tie
 
@@ -13,7 +13,7 @@ same-length : tie.Need-same-length
 same-length c = search needs
 
 returns : tie.Need-returns
-unfolding nameOrNumber
+unfolding placeOrNumber
 returns c = (rw (lt-ltb _ _ (c .before .before .before .before .if1 .taken)) (c .before .before .put-decimal .ensures .0), omega (arith, c .before .before .put-decimal .ensures .1))
 
 add-if2 : tie.Need-add-if2
@@ -26,7 +26,7 @@ same-length-2 : tie.Need-same-length-2
 same-length-2 c = search needs
 
 returns-2 : tie.Need-returns-2
-unfolding nameOrNumber
+unfolding placeOrNumber
 returns-2 c = (rw (le-ltb _ _ (c .before .before .before .before .before .if1 .left), le-leb _ _ (c .before .before .before .before .if2 .taken)) (c .before .before .put-decimal2 .ensures .0), omega (arith, c .before .before .put-decimal2 .ensures .1))
 
 cast-put-name : tie.Need-cast-put-name
@@ -42,7 +42,7 @@ same-length-3 : tie.Need-same-length-3
 same-length-3 c = search needs
 
 returns-3 : tie.Need-returns-3
-unfolding nameOrNumber
+unfolding placeOrNumber
 returns-3 c = (rw (le-ltb _ _ (c .before .before .before .before .before .if1 .left), lt-leb _ _ (c .before .before .before .before .if2 .left)) (c .before .before .put-name .ensures .0), c .before .before .put-name .ensures .1)
 
 pub put-named-spec : {M : Type 1} → statement M

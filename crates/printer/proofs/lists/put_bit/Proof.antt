@@ -7,7 +7,7 @@ use mathlib.Core.Bool.{true, false}
 use Prim.Native.Nat.{ℕ}
 use Rattle.model.specs.Modifiers.{bit}
 use Rattle.model.specs.Canonical.{bitName}
-use Rattle.names.specs.Table.{nameAt}
+use Rattle.names.specs.Table.{nameRow}
 use Rattle.printer.proofs.Laws.{put-then, put-as}
 use Rattle.printer.proofs.Named.{bit-name}
 use Rattle.printer.proofs.lists.put_bit.Statement.{statement}
@@ -29,7 +29,7 @@ returns : tie.Need-returns
 returns c =
     let a = c .before .before .before .before .before .before .before .before .args in
     let t : bit (a .k) (a .e .set) ≡ true = sym (c .before .before .before .before .before .before .bit .ensures) ∙ c .before .before .before .before .before .if1 .taken in
-    let n : nameAt (c .before .before .before .modifier-place .result) ≡ bitName (a .k) = ap nameAt (c .before .before .before .modifier-place .ensures .0) ∙ sym (bit-name (a .k) (c .before .before .before .before .before .before .before .before .pre .1)) in
+    let n : nameRow (c .before .before .before .modifier-place .result) ≡ bitName (a .k) = ap nameRow (c .before .before .before .modifier-place .ensures .0) ∙ sym (bit-name (a .k) (c .before .before .before .before .before .before .before .before .pre .1)) in
     (rw t (put-as n (c .before .before .put-name .ensures .0)), omega (arith, c .before .before .put-name .ensures .1))
 
 put-byte-requires : tie.Need-put-byte-requires
@@ -48,8 +48,8 @@ returns-2 : tie.Need-returns-2
 returns-2 c =
     let a = c .before .before .before .before .before .before .before .before .before .before .before .before .args in
     let t : bit (a .k) (a .e .set) ≡ false = sym (c .before .before .before .before .before .before .before .before .before .before .bit .ensures) ∙ c .before .before .before .before .before .before .before .before .before .if1 .left in
-    let n : nameAt (c .before .before .before .modifier-place2 .result) ≡ bitName (a .k) = ap nameAt (c .before .before .before .modifier-place2 .ensures .0) ∙ sym (bit-name (a .k) (c .before .before .before .before .before .before .before .before .before .before .before .before .pre .1)) in
-    let m : (126 ∷ []) ++ nameAt (c .before .before .before .modifier-place2 .result) ≡ (126 ∷ []) ++ bitName (a .k) = ap (λ (l : List ℕ). (126 ∷ []) ++ l) n in (
+    let n : nameRow (c .before .before .before .modifier-place2 .result) ≡ bitName (a .k) = ap nameRow (c .before .before .before .modifier-place2 .ensures .0) ∙ sym (bit-name (a .k) (c .before .before .before .before .before .before .before .before .before .before .before .before .pre .1)) in
+    let m : (126 ∷ []) ++ nameRow (c .before .before .before .modifier-place2 .result) ≡ (126 ∷ []) ++ bitName (a .k) = ap (λ (l : List ℕ). (126 ∷ []) ++ l) n in (
       rw t (put-as m (put-then (c .before .before .before .before .before .before .before .put-byte .ensures) (c .before .before .put-name2 .ensures .0))),
       omega (arith, c .before .before .before .before .before .before .before .put-byte .ensures .next, c .before .before .put-name2 .ensures .1),
     )

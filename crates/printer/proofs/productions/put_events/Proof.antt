@@ -9,7 +9,7 @@ use mathlib.Core.Bool.{true}
 use Rattle.words.specs.Runs.{run}
 use Rattle.model.specs.Canonical.{joinedBy, each, eventText}
 use Rattle.model.specs.declared.events.KeptEvent.{KeptEvent}
-use Rattle.tables.specs.Reading.{eventAt}
+use Rattle.tables.specs.Reading.{eventEntry}
 use Rattle.tables.specs.Fitting.{eventInRange}
 use Rattle.tables.proofs.WholeFacts.{WholeFacts, facts-of-whole, event-range}
 use Rattle.printer.specs.Overlay.{Put, separator}
@@ -21,7 +21,7 @@ abbrev Inv-loop : tie.InvT-loop
 Inv-loop out₀ at l from n next₀ k₀ out next k =
     (k ≤ n)
     × (next ≤ at + 20001 * k)
-    × Put out₀ out at next (joinedBy (44 ∷ []) (each eventText (run (eventAt l) from k)))
+    × Put out₀ out at next (joinedBy (44 ∷ []) (each eventText (run (eventEntry l) from k)))
 
 abbrev μ-loop : tie.MeasureT-loop
 μ-loop out₀ at l from n next₀ k₀ out next k = n - k
@@ -29,7 +29,7 @@ abbrev μ-loop : tie.MeasureT-loop
 loop-holds : tie.Need-loop-holds Inv-loop μ-loop
 loop-holds c =
     let a = c .before .before .args in
-    (search needs, search needs, put-as (run-joined-none eventText 44 (eventAt (a .l .now)) (a .from)) (put-none _ _))
+    (search needs, search needs, put-as (run-joined-none eventText 44 (eventEntry (a .l .now)) (a .from)) (put-none _ _))
 
 add-event-at : tie.Need-add-event-at Inv-loop μ-loop
 add-event-at c =
@@ -70,8 +70,8 @@ loop-again c =
       search needs,
       omega (arith, w .inv .1, p .1, q .1),
       put-as
-          (ap (λ (e : KeptEvent). joinedBy (44 ∷ []) (each eventText (run (eventAt (a .l .now)) (a .from) (w .k))) ++ (separator 44 (w .k) ++ eventText e)) (c .before .before .before .before .before .before .before .before .event-at .ensures)
-          ∙ run-joined eventText 44 (eventAt (a .l .now)) (a .from) (w .k))
+          (ap (λ (e : KeptEvent). joinedBy (44 ∷ []) (each eventText (run (eventEntry (a .l .now)) (a .from) (w .k))) ++ (separator 44 (w .k) ++ eventText e)) (c .before .before .before .before .before .before .before .before .event-at .ensures)
+          ∙ run-joined eventText 44 (eventEntry (a .l .now)) (a .from) (w .k))
           (put-then (w .inv .2) (put-then (p .0) (q .0))),
     )
 
@@ -83,7 +83,7 @@ returns c =
     let a = c .before .before .before .before .args in
     let f : WholeFacts (a .l .now) = facts-of-whole (c .before .before .before .before .args .l .now) (c .before .before .before .before .pre .1) in
     let k : c .before .loop .k ≡ a .n = omega arith in (
-      put-as (ap (λ (n : ℕ). joinedBy (44 ∷ []) (each eventText (run (eventAt (a .l .now)) (a .from) n))) k) (c .before .loop .inv .2),
+      put-as (ap (λ (n : ℕ). joinedBy (44 ∷ []) (each eventText (run (eventEntry (a .l .now)) (a .from) n))) k) (c .before .loop .inv .2),
       omega (arith, c .before .loop .inv .1, f .events, c .before .before .before .before .pre .2),
     )
 

@@ -7,7 +7,7 @@ use Prim.Native.Nat.{ℕ}
 use mathlib.Core.List.{List, [], _∷_, _++_}
 use Rattle.words.specs.Runs.{run}
 use Rattle.model.specs.Canonical.{joinedBy, each, eventText, callText, productionText}
-use Rattle.tables.specs.Reading.{eventAt, callAt, productionAt, eventsFrom, productionEvents, callsFrom, productionCalls}
+use Rattle.tables.specs.Reading.{eventEntry, callEntry, productionEntry, firstEvent, productionEvents, firstCall, productionCalls}
 use Rattle.tables.proofs.WholeFacts.{WholeFacts}
 use Rattle.printer.proofs.ReadyFacts.{ready-facts}
 use Rattle.printer.proofs.productions.put_production.Statement.{statement}
@@ -17,10 +17,10 @@ both : (f : ℕ → ℕ → List ℕ) (a b x y : ℕ) → a ≡ b → x ≡ y �
 both f a b x y p q = ap (λ (i : ℕ). f i x) p ∙ ap (λ (i : ℕ). f b i) q
 
 abbrev eventsPart : List ℕ → ℕ → ℕ → List ℕ
-eventsPart l s n = joinedBy (44 ∷ []) (each eventText (run (eventAt l) s n))
+eventsPart l s n = joinedBy (44 ∷ []) (each eventText (run (eventEntry l) s n))
 
 abbrev callsPart : List ℕ → List ℕ → List ℕ → ℕ → ℕ → List ℕ
-callsPart first second l s n = joinedBy (32 ∷ []) (each (callText first second) (run (callAt l) s n))
+callsPart first second l s n = joinedBy (32 ∷ []) (each (callText first second) (run (callEntry l) s n))
 
 events-from-requires : tie.Need-events-from-requires
 events-from-requires c κs = let f : WholeFacts (c .before .before .before .before .args .l .now) = ready-facts (c .before .before .before .before .args .l .now) (c .before .before .before .before .args .first .now) (c .before .before .before .before .args .second .now) (c .before .before .before .before .pre .1) in omega (arith, f .long, f .productions, c .before .before .before .before .pre .2)
@@ -61,15 +61,15 @@ same-length : tie.Need-same-length
 same-length c = search needs
 
 returns : tie.Need-returns
-unfolding productionText productionAt
+unfolding productionText productionEntry
 returns c =
     let a = c .before .before .before .before .before .before .before .before .before .before .before .before .before .before .before .before .before .before .before .before .before .before .before .before .args in
     let o = c .before .before .before .before .before .before .before .before .before .before .before .before .before .before .put-events .ensures in
     let p = c .before .before .before .before .before .before .before .before .before .before .put-byte .ensures in
     let q = c .before .before .before .before .before .before .put-calls .ensures in
     let r = c .before .before .put-byte2 .ensures in
-    let e = both (eventsPart (a .l .now)) (c .before .before .before .before .before .before .before .before .before .before .before .before .before .before .before .before .before .before .before .events-from .result) (eventsFrom (a .l .now) (a .p)) (c .before .before .before .before .before .before .before .before .before .before .before .before .before .before .before .before .before .before .production-events .result) (productionEvents (a .l .now) (a .p)) (c .before .before .before .before .before .before .before .before .before .before .before .before .before .before .before .before .before .before .before .events-from .ensures) (c .before .before .before .before .before .before .before .before .before .before .before .before .before .before .before .before .before .before .production-events .ensures) in
-    let d = both (callsPart (a .first .now) (a .second .now) (a .l .now)) (c .before .before .before .before .before .before .before .before .before .before .before .before .before .before .before .before .before .calls-from .result) (callsFrom (a .l .now) (a .p)) (c .before .before .before .before .before .before .before .before .before .before .before .before .before .before .before .before .production-calls .result) (productionCalls (a .l .now) (a .p)) (c .before .before .before .before .before .before .before .before .before .before .before .before .before .before .before .before .before .calls-from .ensures) (c .before .before .before .before .before .before .before .before .before .before .before .before .before .before .before .before .production-calls .ensures) in
+    let e = both (eventsPart (a .l .now)) (c .before .before .before .before .before .before .before .before .before .before .before .before .before .before .before .before .before .before .before .events-from .result) (firstEvent (a .l .now) (a .p)) (c .before .before .before .before .before .before .before .before .before .before .before .before .before .before .before .before .before .before .production-events .result) (productionEvents (a .l .now) (a .p)) (c .before .before .before .before .before .before .before .before .before .before .before .before .before .before .before .before .before .before .before .events-from .ensures) (c .before .before .before .before .before .before .before .before .before .before .before .before .before .before .before .before .before .before .production-events .ensures) in
+    let d = both (callsPart (a .first .now) (a .second .now) (a .l .now)) (c .before .before .before .before .before .before .before .before .before .before .before .before .before .before .before .before .before .calls-from .result) (firstCall (a .l .now) (a .p)) (c .before .before .before .before .before .before .before .before .before .before .before .before .before .before .before .before .production-calls .result) (productionCalls (a .l .now) (a .p)) (c .before .before .before .before .before .before .before .before .before .before .before .before .before .before .before .before .before .calls-from .ensures) (c .before .before .before .before .before .before .before .before .before .before .before .before .before .before .before .before .production-calls .ensures) in
     (put-then (put-as e (o .0)) (put-then p (put-then (put-as d (q .0)) r)), omega (arith, o .1, p .next, q .1, r .next))
 
 pub put-production-spec : {M : Type 1} → statement M

@@ -7,7 +7,7 @@ use Prim.Native.Nat.{ℕ, _+_, _*_, _-_, _≤_}
 use mathlib.Core.List.{List, _++_}
 use Rattle.words.specs.Runs.{run}
 use Rattle.model.specs.Canonical.{productionsText}
-use Rattle.tables.specs.Reading.{productionAt, productionCount}
+use Rattle.tables.specs.Reading.{productionEntry, productionTotal}
 use Rattle.printer.specs.Overlay.{Put}
 use Rattle.printer.proofs.RunJoined.{productions-none, productions-step}
 use Rattle.tables.proofs.WholeFacts.{WholeFacts}
@@ -19,7 +19,7 @@ abbrev Inv-loop : tie.InvT-loop
 Inv-loop out₀ l first second n next₀ p₀ out next p =
     (p ≤ n)
     × (next ≤ 5900000 * p)
-    × Put out₀ out 0 next (productionsText first second (run (productionAt l) 0 p))
+    × Put out₀ out 0 next (productionsText first second (run (productionEntry l) 0 p))
 
 abbrev μ-loop : tie.MeasureT-loop
 μ-loop out₀ l first second n next₀ p₀ out next p = n - p
@@ -30,7 +30,7 @@ production-count-requires c κs = let f : WholeFacts (c .before .before .before 
 loop-holds : tie.Need-loop-holds Inv-loop μ-loop
 loop-holds c =
     let a = c .before .before .before .before .before .args in
-    (search needs, search needs, put-as (productions-none (a .first .now) (a .second .now) (productionAt (a .l .now))) (put-none _ _))
+    (search needs, search needs, put-as (productions-none (a .first .now) (a .second .now) (productionEntry (a .l .now))) (put-none _ _))
 
 put-production-requires : tie.Need-put-production-requires Inv-loop μ-loop
 put-production-requires c κs =
@@ -50,7 +50,7 @@ loop-again c =
     let q = c .before .before .put-production .ensures in (
       search needs,
       omega (arith, w .inv .1, q .1),
-      put-as (productions-step (a .first .now) (a .second .now) (productionAt (a .l .now)) (w .p)) (put-then (w .inv .2) (q .0)),
+      put-as (productions-step (a .first .now) (a .second .now) (productionEntry (a .l .now)) (w .p)) (put-then (w .inv .2) (q .0)),
     )
 
 same-length : tie.Need-same-length Inv-loop μ-loop
@@ -59,9 +59,9 @@ same-length c = put-length (c .before .loop .inv .2)
 returns : tie.Need-returns Inv-loop μ-loop
 returns c =
     let a = c .before .before .before .before .before .before .before .args in
-    let n : c .before .loop .p ≡ productionCount (a .l .now) = omega (arith, c .before .before .production-count .ensures) in
+    let n : c .before .loop .p ≡ productionTotal (a .l .now) = omega (arith, c .before .before .production-count .ensures) in
     let f : WholeFacts (a .l .now) = ready-facts (a .l .now) (a .first .now) (a .second .now) (c .before .before .before .before .before .before .before .pre) in
-    (put-as (ap (λ (k : ℕ). productionsText (a .first .now) (a .second .now) (run (productionAt (a .l .now)) 0 k)) n) (c .before .loop .inv .2), omega (arith, c .before .loop .inv .1, f .productions))
+    (put-as (ap (λ (k : ℕ). productionsText (a .first .now) (a .second .now) (run (productionEntry (a .l .now)) 0 k)) n) (c .before .loop .inv .2), omega (arith, c .before .loop .inv .1, f .productions))
 
 pub put-productions-spec : {M : Type 1} → statement M
 put-productions-spec =

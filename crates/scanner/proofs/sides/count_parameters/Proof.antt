@@ -4,7 +4,7 @@ use Rattle.model.specs.declared.scan.ParameterRead.{ParameterRead}
 use Rattle.scanner.proofs.Ranges.{ParameterIn, parameter-in}
 use Rattle.scanner.proofs.Right.{counted-more, counted-start, countedFrom, parameters-step}
 use Rattle.scanner.proofs.Runs.{told}
-use Rattle.scanner.specs.Sides.{counted}
+use Rattle.scanner.specs.Sides.{parametersCounted}
 use borrow.Author.Needs.{needs}
 use lib.ListN.{length}
 use mathlib.Core.Path.{_∙_, _≡_, ap, sym}
@@ -16,7 +16,7 @@ use Rattle.scanner.proofs.sides.count_parameters.Tie as tie
 abbrev Inv-loop : tie.InvT-loop
 Inv-loop l at i₀ count₀ i count =
     (f : ℕ) × (length l < f + i) × (i ≤ length l) × (count ≤ i)
-    × (counted (parametersFrom (length l + 1) l at) ≡ countedFrom count (parametersFrom f l i))
+    × (parametersCounted (parametersFrom (length l + 1) l at) ≡ countedFrom count (parametersFrom f l i))
 
 abbrev μ-loop : tie.MeasureT-loop
 μ-loop l at i₀ count₀ i count = length l - i

@@ -1,6 +1,6 @@
 use Rattle.scanner.proofs.Right.{OpenIn, open-in, opened, opened-is}
 use Rattle.scanner.proofs.Runs.{told}
-use Rattle.scanner.specs.Sides.{counted}
+use Rattle.scanner.specs.Sides.{parametersCounted}
 use Rattle.scanner.specs.declared.sides.ParametersOpen.{ParametersOpen}
 use borrow.Author.Needs.{needs}
 use lib.ListN.{length}
@@ -23,13 +23,13 @@ count-parameters-requires c κs =
     b .1
 
 returns : tie.Need-returns
-returns c = ap (λ (r : ParametersOpen). counted (opened (c .before .before .before .before .before .args .l .now) r)) (sym (c .before .next .given .1) ∙ c .before .before .before .open-parameters .ensures) ∙ ap counted (opened-is (c .before .before .before .before .before .args .l .now) (c .before .before .before .before .before .args .at))
+returns c = ap (λ (r : ParametersOpen). parametersCounted (opened (c .before .before .before .before .before .args .l .now) r)) (sym (c .before .next .given .1) ∙ c .before .before .before .open-parameters .ensures) ∙ ap parametersCounted (opened-is (c .before .before .before .before .before .args .l .now) (c .before .before .before .before .before .args .at))
 
 returns-2 : tie.Need-returns-2
 returns-2 c =
     c .count-parameters .ensures
-    ∙ ap (λ (r : ParametersOpen). counted (opened (c .before .before .before .before .before .before .args .l .now) r)) (sym (c .before .before .first .given .1) ∙ c .before .before .before .before .open-parameters .ensures)
-    ∙ ap counted (opened-is (c .before .before .before .before .before .before .args .l .now) (c .before .before .before .before .before .before .args .at))
+    ∙ ap (λ (r : ParametersOpen). parametersCounted (opened (c .before .before .before .before .before .before .args .l .now) r)) (sym (c .before .before .first .given .1) ∙ c .before .before .before .before .open-parameters .ensures)
+    ∙ ap parametersCounted (opened-is (c .before .before .before .before .before .before .args .l .now) (c .before .before .before .before .before .before .args .at))
 
 pub read-parameters-spec : {M : Type 1} → statement M
 read-parameters-spec =

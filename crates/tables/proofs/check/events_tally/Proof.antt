@@ -10,7 +10,7 @@ use Rattle.words.specs.Words.{wordAt}
 use Rattle.words.specs.Runs.{every, total}
 use Rattle.words.proofs.RunLaws.{every-more, total-more}
 use Rattle.words.proofs.Zeros.{or-below}
-use Rattle.tables.specs.Layout.{countsAt}
+use Rattle.tables.specs.Layout.{countsAt, tableLength}
 use Rattle.tables.specs.Checks.{eventOk, fewAt, lowAt}
 use Rattle.tables.proofs.check.events_tally.Statement.{statement}
 use Rattle.tables.proofs.check.events_tally.Tie as tie
@@ -18,7 +18,7 @@ use Rattle.tables.proofs.check.events_tally.Tie as tie
 abbrev Inv-loop : tie.InvT-loop
 Inv-loop l n ok₀ counts₀ joined₀ i₀ ok counts joined i =
     (i ≤ n)
-    × ((5904 ≤ length l) × (n ≤ 256))
+    × ((tableLength ≤ length l) × (n ≤ 256))
     × (ok ≡ every (eventOk l) 0 i)
     × (counts ≤ 255 * i)
     × (counts ≡ total (lowAt l) countsAt i)

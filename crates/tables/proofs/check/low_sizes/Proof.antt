@@ -11,9 +11,10 @@ use Rattle.tables.specs.Checks.{sizeAt}
 use Rattle.tables.proofs.Shortcuts.{count-low, count-high, size-most}
 use Rattle.tables.proofs.check.low_sizes.Statement.{statement}
 use Rattle.tables.proofs.check.low_sizes.Tie as tie
+use Rattle.tables.specs.Layout.{tableLength}
 
 abbrev Inv-loop : tie.InvT-loop
-Inv-loop l n s₀ i₀ s i = (i ≤ n) × ((5904 ≤ length l) × (n ≤ 256)) × (s ≤ 18 * i) × (s ≡ total (sizeAt l) 0 i)
+Inv-loop l n s₀ i₀ s i = (i ≤ n) × ((tableLength ≤ length l) × (n ≤ 256)) × (s ≤ 18 * i) × (s ≡ total (sizeAt l) 0 i)
 
 abbrev μ-loop : tie.MeasureT-loop
 μ-loop l n s₀ i₀ s i = n - i

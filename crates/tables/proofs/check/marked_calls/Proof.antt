@@ -8,7 +8,7 @@ use lib.ListN.{length}
 use Rattle.words.specs.Words.{wordAt}
 use Rattle.words.specs.Runs.{every, total}
 use Rattle.words.proofs.RunLaws.{every-more, total-more}
-use Rattle.tables.specs.Layout.{callParametersAt}
+use Rattle.tables.specs.Layout.{callParametersAt, tableLength}
 use Rattle.tables.specs.Checks.{callOk, lowAt}
 use Rattle.tables.proofs.check.marked_calls.Statement.{statement}
 use Rattle.tables.proofs.check.marked_calls.Tie as tie
@@ -16,7 +16,7 @@ use Rattle.tables.proofs.check.marked_calls.Tie as tie
 abbrev Inv-loop : tie.InvT-loop
 Inv-loop l n merged first second ok₀ parameters₀ i₀ ok parameters i =
     (i ≤ n)
-    × ((5904 ≤ length l) × (n ≤ 128))
+    × ((tableLength ≤ length l) × (n ≤ 128))
     × ((merged ≡ wordAt l 1) × (first ≡ wordAt l 2) × (second ≡ wordAt l 3))
     × (ok ≡ every (callOk l) 0 i)
     × (parameters ≤ 255 * i)

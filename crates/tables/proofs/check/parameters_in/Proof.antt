@@ -11,9 +11,10 @@ use Rattle.words.proofs.RunLaws.{every-more}
 use Rattle.tables.proofs.Joined.{joined-parameter}
 use Rattle.tables.proofs.check.parameters_in.Statement.{statement}
 use Rattle.tables.proofs.check.parameters_in.Tie as tie
+use Rattle.tables.specs.Layout.{tableLength}
 
 abbrev Inv-loop : tie.InvT-loop
-Inv-loop l text from n faults₀ i₀ faults i = (i ≤ n) × ((5904 ≤ length l) × (from + n ≤ 256)) × (eqb faults 0 ≡ every (parameterOk l text) from i)
+Inv-loop l text from n faults₀ i₀ faults i = (i ≤ n) × ((tableLength ≤ length l) × (from + n ≤ 256)) × (eqb faults 0 ≡ every (parameterOk l text) from i)
 
 abbrev μ-loop : tie.MeasureT-loop
 μ-loop l text from n faults₀ i₀ faults i = n - i

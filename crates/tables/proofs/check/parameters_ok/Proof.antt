@@ -9,13 +9,13 @@ use Rattle.words.specs.Words.{wordAt}
 use Rattle.words.specs.Runs.{every, total}
 use Rattle.words.proofs.RunLaws.{every-more, total-more}
 use native.Mathlib.Nat.{zero-add}
-use Rattle.tables.specs.Layout.{callParametersAt}
+use Rattle.tables.specs.Layout.{callParametersAt, tableLength}
 use Rattle.words.proofs.RunLaws.{total-part}
 use Rattle.tables.proofs.check.parameters_ok.Statement.{statement}
 use Rattle.tables.proofs.check.parameters_ok.Tie as tie
 
 abbrev Inv-loop : tie.InvT-loop
-Inv-loop l n first second ok₀ from₀ i₀ ok from i = (i ≤ n) × ((5904 ≤ length l) × (n ≤ 128) × (total (wordAt l) callParametersAt n ≤ 256)) × ((first ≡ wordAt l 2) × (second ≡ wordAt l 3)) × (from ≡ total (wordAt l) callParametersAt i) × (ok ≡ every (parametersOk l) 0 i)
+Inv-loop l n first second ok₀ from₀ i₀ ok from i = (i ≤ n) × ((tableLength ≤ length l) × (n ≤ 128) × (total (wordAt l) callParametersAt n ≤ 256)) × ((first ≡ wordAt l 2) × (second ≡ wordAt l 3)) × (from ≡ total (wordAt l) callParametersAt i) × (ok ≡ every (parametersOk l) 0 i)
 
 abbrev μ-loop : tie.MeasureT-loop
 μ-loop l n first second ok₀ from₀ i₀ ok from i = n - i

@@ -11,7 +11,7 @@ use Rattle.words.specs.Words.{wordAt}
 use Rattle.words.specs.Runs.{every, total}
 use Rattle.words.proofs.RunLaws.{every-more, total-more}
 use Rattle.words.proofs.Zeros.{or-zero}
-use Rattle.tables.specs.Layout.{callParametersAt}
+use Rattle.tables.specs.Layout.{callParametersAt, tableLength}
 use Rattle.tables.specs.Checks.{callOk, lowAt}
 use Rattle.tables.proofs.Joined.{joined-call}
 use Rattle.tables.proofs.check.plain_calls.Statement.{statement}
@@ -20,7 +20,7 @@ use Rattle.tables.proofs.check.plain_calls.Tie as tie
 abbrev Inv-loop : tie.InvT-loop
 Inv-loop l n first marks₀ faults₀ parameters₀ i₀ marks faults parameters i =
     (i ≤ n)
-    × ((5904 ≤ length l) × (n ≤ 128))
+    × ((tableLength ≤ length l) × (n ≤ 128))
     × ((wordAt l 1 ≡ 0) × (first ≡ wordAt l 2))
     × ((eqb marks 0 && eqb faults 0) ≡ every (callOk l) 0 i)
     × (parameters ≤ 255 * i)

@@ -9,13 +9,13 @@ use Rattle.words.specs.Words.{wordAt}
 use Rattle.words.specs.Runs.{every, total}
 use Rattle.words.proofs.RunLaws.{every-more, total-more}
 use native.Mathlib.Nat.{zero-add}
-use Rattle.tables.specs.Layout.{productionEventsAt}
+use Rattle.tables.specs.Layout.{productionEventsAt, tableLength}
 use Rattle.words.proofs.RunLaws.{total-part}
 use Rattle.tables.proofs.check.productions_ok.Statement.{statement}
 use Rattle.tables.proofs.check.productions_ok.Tie as tie
 
 abbrev Inv-loop : tie.InvT-loop
-Inv-loop l n ok₀ from₀ p₀ ok from p = (p ≤ n) × ((5904 ≤ length l) × (n ≤ 64) × (total (wordAt l) productionEventsAt n ≤ 256)) × (from ≡ total (wordAt l) productionEventsAt p) × (ok ≡ every (productionOk l) 0 p)
+Inv-loop l n ok₀ from₀ p₀ ok from p = (p ≤ n) × ((tableLength ≤ length l) × (n ≤ 64) × (total (wordAt l) productionEventsAt n ≤ 256)) × (from ≡ total (wordAt l) productionEventsAt p) × (ok ≡ every (productionOk l) 0 p)
 
 abbrev μ-loop : tie.MeasureT-loop
 μ-loop l n ok₀ from₀ p₀ ok from p = n - p

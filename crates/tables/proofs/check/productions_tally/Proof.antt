@@ -9,7 +9,7 @@ use lib.ListN.{length}
 use Rattle.words.specs.Words.{wordAt}
 use Rattle.words.specs.Runs.{every, total}
 use Rattle.words.proofs.RunLaws.{every-more, total-more}
-use Rattle.tables.specs.Layout.{productionEventsAt, productionCallsAt}
+use Rattle.tables.specs.Layout.{productionEventsAt, productionCallsAt, tableLength}
 use Rattle.tables.specs.Checks.{plainOk, lowAt}
 use Rattle.tables.proofs.Joined.{joined-production}
 use Rattle.tables.proofs.check.productions_tally.Statement.{statement}
@@ -18,7 +18,7 @@ use Rattle.tables.proofs.check.productions_tally.Tie as tie
 abbrev Inv-loop : tie.InvT-loop
 Inv-loop l n most faults₀ events₀ calls₀ p₀ faults events calls p =
     (p ≤ n)
-    × ((5904 ≤ length l) × (n ≤ 64))
+    × ((tableLength ≤ length l) × (n ≤ 64))
     × (eqb faults 0 ≡ every (plainOk l most) 0 p)
     × ((events ≤ 255 * p) × (calls ≤ 255 * p))
     × (events ≡ total (lowAt l) productionEventsAt p)

@@ -10,9 +10,10 @@ use Rattle.words.proofs.RunLaws.{total-more}
 use Rattle.tables.proofs.LoopLaws.{size-below}
 use Rattle.tables.proofs.check.sizes.Statement.{statement}
 use Rattle.tables.proofs.check.sizes.Tie as tie
+use Rattle.tables.specs.Layout.{tableLength}
 
 abbrev Inv-loop : tie.InvT-loop
-Inv-loop l from n s₀ i₀ s i = (i ≤ n) × ((5904 ≤ length l) × (from + n ≤ 256)) × (s ≤ 131070 * i) × (s ≡ total (sizeAt l) from i)
+Inv-loop l from n s₀ i₀ s i = (i ≤ n) × ((tableLength ≤ length l) × (from + n ≤ 256)) × (s ≤ 131070 * i) × (s ≡ total (sizeAt l) from i)
 
 abbrev μ-loop : tie.MeasureT-loop
 μ-loop l from n s₀ i₀ s i = n - i

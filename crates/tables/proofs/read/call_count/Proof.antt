@@ -1,7 +1,7 @@
 -- `tables::read::call_count` meets its contract.
 use borrow.Author.Needs.{needs}
 use Prim.Native.Nat.{_-_}
-use Rattle.tables.specs.Reading.{callCount}
+use Rattle.tables.specs.Reading.{callTotal}
 use Rattle.tables.proofs.read.call_count.Statement.{statement}
 use Rattle.tables.proofs.read.call_count.Tie as tie
 
@@ -12,7 +12,7 @@ cast-result : tie.Need-cast-result
 cast-result c = search needs
 
 returns : tie.Need-returns
-unfolding callCount
+unfolding callTotal
 returns c = rw (c .word-at .ensures)
 
 pub call-count-spec : {M : Type 1} → statement M

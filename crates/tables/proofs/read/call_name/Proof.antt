@@ -1,7 +1,7 @@
 -- `tables::read::call_name` meets its contract.
 use borrow.Author.Needs.{needs}
 use Prim.Native.Nat.{_-_}
-use Rattle.tables.specs.Reading.{nameAt}
+use Rattle.tables.specs.Reading.{nameEntry}
 use Rattle.tables.proofs.read.call_name.Statement.{statement}
 use Rattle.tables.proofs.read.call_name.Tie as tie
 
@@ -24,7 +24,7 @@ cast-t8 : tie.Need-cast-t8
 cast-t8 c = search needs
 
 returns : tie.Need-returns
-unfolding nameAt
+unfolding nameEntry
 returns c = rw (c .before .word-at .ensures, c .word-at2 .ensures)
 
 pub call-name-spec : {M : Type 1} → statement M

@@ -1,7 +1,7 @@
 -- `tables::read::calls_from` meets its contract.
 use borrow.Author.Needs.{needs}
 use Prim.Native.Nat.{_-_}
-use Rattle.tables.specs.Reading.{callsFrom}
+use Rattle.tables.specs.Reading.{firstCall}
 use Rattle.tables.proofs.read.calls_from.Statement.{statement}
 use Rattle.tables.proofs.read.calls_from.Tie as tie
 
@@ -12,7 +12,7 @@ cast-result : tie.Need-cast-result
 cast-result c = search needs
 
 returns : tie.Need-returns
-unfolding callsFrom
+unfolding firstCall
 returns c = c .sum .ensures
 
 pub calls-from-spec : {M : Type 1} → statement M

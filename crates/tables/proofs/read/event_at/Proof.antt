@@ -1,7 +1,7 @@
 -- `tables::read::event_at` meets its contract.
 use borrow.Author.Needs.{needs}
 use Prim.Native.Nat.{_-_}
-use Rattle.tables.specs.Reading.{eventAt}
+use Rattle.tables.specs.Reading.{eventEntry}
 use Rattle.tables.proofs.read.event_at.Statement.{statement}
 use Rattle.tables.proofs.read.event_at.Tie as tie
 
@@ -51,7 +51,7 @@ event-of-requires : tie.Need-event-of-requires
 event-of-requires c κs = search needs
 
 returns : tie.Need-returns
-unfolding eventAt
+unfolding eventEntry
 returns c = rw (c .event-of .ensures, c .before .before .before .before .before .before .before .word-at .ensures, c .before .before .before .before .before .before .word-at2 .ensures, c .before .before .before .before .before .word-at3 .ensures, c .before .before .before .before .word-at4 .ensures, c .before .before .before .word-at5 .ensures, c .before .before .word-at6 .ensures, c .before .word-at7 .ensures)
 
 pub event-at-spec : {M : Type 1} → statement M

@@ -1,7 +1,7 @@
 -- `tables::read::event_count` meets its contract.
 use borrow.Author.Needs.{needs}
 use Prim.Native.Nat.{_-_}
-use Rattle.tables.specs.Reading.{eventCount}
+use Rattle.tables.specs.Reading.{eventTotal}
 use Rattle.tables.proofs.read.event_count.Statement.{statement}
 use Rattle.tables.proofs.read.event_count.Tie as tie
 
@@ -12,7 +12,7 @@ cast-result : tie.Need-cast-result
 cast-result c = search needs
 
 returns : tie.Need-returns
-unfolding eventCount
+unfolding eventTotal
 returns c = rw (c .word-at .ensures)
 
 pub event-count-spec : {M : Type 1} → statement M

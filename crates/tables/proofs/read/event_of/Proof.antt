@@ -1,7 +1,7 @@
 -- `tables::read::event_of` meets its contract.
 use borrow.Author.Needs.{needs}
 use Prim.Native.Nat.{_-_}
-use Rattle.tables.specs.Reading.{eventOf}
+use Rattle.tables.specs.Reading.{eventFromWords}
 use Rattle.tables.proofs.read.event_of.Statement.{statement}
 use Rattle.tables.proofs.read.event_of.Tie as tie
 
@@ -15,7 +15,7 @@ cast-t18 : tie.Need-cast-t18
 cast-t18 c = search needs
 
 returns : tie.Need-returns
-unfolding eventOf
+unfolding eventFromWords
 returns c = rw (c .detail-of .ensures)
 
 pub event-of-spec : {M : Type 1} → statement M

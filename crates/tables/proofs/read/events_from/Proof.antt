@@ -1,7 +1,7 @@
 -- `tables::read::events_from` meets its contract.
 use borrow.Author.Needs.{needs}
 use Prim.Native.Nat.{_-_}
-use Rattle.tables.specs.Reading.{eventsFrom}
+use Rattle.tables.specs.Reading.{firstEvent}
 use Rattle.tables.proofs.read.events_from.Statement.{statement}
 use Rattle.tables.proofs.read.events_from.Tie as tie
 
@@ -12,7 +12,7 @@ cast-result : tie.Need-cast-result
 cast-result c = search needs
 
 returns : tie.Need-returns
-unfolding eventsFrom
+unfolding firstEvent
 returns c = c .sum .ensures
 
 pub events-from-spec : {M : Type 1} → statement M

@@ -1,7 +1,7 @@
 -- `tables::read::parameter_count` meets its contract.
 use borrow.Author.Needs.{needs}
 use Prim.Native.Nat.{_-_}
-use Rattle.tables.specs.Reading.{parameterCount}
+use Rattle.tables.specs.Reading.{parameterTotal}
 use Rattle.tables.proofs.read.parameter_count.Statement.{statement}
 use Rattle.tables.proofs.read.parameter_count.Tie as tie
 
@@ -12,7 +12,7 @@ cast-result : tie.Need-cast-result
 cast-result c = search needs
 
 returns : tie.Need-returns
-unfolding parameterCount
+unfolding parameterTotal
 returns c = rw (c .word-at .ensures)
 
 pub parameter-count-spec : {M : Type 1} → statement M

@@ -1,7 +1,7 @@
 -- `tables::read::parameter_span` meets its contract.
 use borrow.Author.Needs.{needs}
 use Prim.Native.Nat.{_-_}
-use Rattle.tables.specs.Reading.{parameterAt}
+use Rattle.tables.specs.Reading.{parameterEntry}
 use Rattle.tables.proofs.read.parameter_span.Statement.{statement}
 use Rattle.tables.proofs.read.parameter_span.Tie as tie
 
@@ -24,7 +24,7 @@ cast-t8 : tie.Need-cast-t8
 cast-t8 c = search needs
 
 returns : tie.Need-returns
-unfolding parameterAt
+unfolding parameterEntry
 returns c = rw (c .before .word-at .ensures, c .word-at2 .ensures)
 
 pub parameter-span-spec : {M : Type 1} → statement M

@@ -1,7 +1,7 @@
 -- `tables::read::parameters_from` meets its contract.
 use borrow.Author.Needs.{needs}
 use Prim.Native.Nat.{_-_}
-use Rattle.tables.specs.Reading.{parametersFrom}
+use Rattle.tables.specs.Reading.{firstParameter}
 use Rattle.tables.proofs.read.parameters_from.Statement.{statement}
 use Rattle.tables.proofs.read.parameters_from.Tie as tie
 
@@ -12,7 +12,7 @@ cast-result : tie.Need-cast-result
 cast-result c = search needs
 
 returns : tie.Need-returns
-unfolding parametersFrom
+unfolding firstParameter
 returns c = c .sum .ensures
 
 pub parameters-from-spec : {M : Type 1} → statement M

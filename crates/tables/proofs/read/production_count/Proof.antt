@@ -1,7 +1,7 @@
 -- `tables::read::production_count` meets its contract.
 use borrow.Author.Needs.{needs}
 use Prim.Native.Nat.{_-_}
-use Rattle.tables.specs.Reading.{productionCount}
+use Rattle.tables.specs.Reading.{productionTotal}
 use Rattle.tables.proofs.read.production_count.Statement.{statement}
 use Rattle.tables.proofs.read.production_count.Tie as tie
 
@@ -12,7 +12,7 @@ cast-result : tie.Need-cast-result
 cast-result c = search needs
 
 returns : tie.Need-returns
-unfolding productionCount
+unfolding productionTotal
 returns c = rw (c .word-at .ensures)
 
 pub production-count-spec : {M : Type 1} → statement M
