@@ -1,4 +1,4 @@
-// The events of a line that was judged, written into the table: its left side is walkOver again.
+// The events of a line that was judged, written into the table: its left side is walked again.
 use judge::events::judge_key;
 use judge::spans::judge_event;
 use model::answers::Judged;

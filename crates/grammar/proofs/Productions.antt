@@ -26,7 +26,7 @@ use Rattle.grammar.proofs.KeySequences.{KeyseqRead, keyseq-sound, keyse
 use Rattle.grammar.proofs.Events.{EventRead, event-sound, EventGot, event-complete, event-length}
 use Rattle.grammar.proofs.Calls.{RhsRead, rhs-sound, rhs-complete}
 
--- bytes with which no event beginsWith
+-- bytes with which no event begins
 pub record Dead (r : List ℕ) : Type 0 where
   pub noBlank : beginsWith blank r ≡ false
   pub noBang : eqb (first r) (code "!") ≡ false
@@ -54,7 +54,7 @@ module _ (l : List ℕ) where
   unfolding plainEventAt leadAt
   plain-skip p x = rw (skip-skip p x)
 
-  -- no event beginsWith with such bytes
+  -- no event begins with such bytes
   module _ {r : List ℕ} (d : Dead r) where
     dead-modifier : (p : ℕ) → At l p r → modifierAt l p ≡ ModifierRead.Broken
     unfolding modifierAt modifierFrom modifierNameAt nameFrom
@@ -236,7 +236,7 @@ module _ (l : List ℕ) where
       let g = lhs-complete (length l + 1) 0 (omega arith) (at-start l) d s in
       rw (g .reads, rhs-complete l (g .next) (g .at) c)
 
-  -- a line that beginsWith, past its blanks, with bytes with which neither an event nor a key sequence beginsWith
+  -- a line that begins, past its blanks, with bytes with which neither an event nor a key sequence begins
   module _ {r : List ℕ} (y : Blanks l r) (d : Dead r) (q : eqb (first r) (code "\"") ≡ false) where
     dead-item : eventsAt l 0 ≡ EventsRead.broken
     unfolding eventsAt eventsFrom

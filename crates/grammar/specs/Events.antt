@@ -18,9 +18,9 @@ pub data DerivesEventType : List ℕ → List ℕ → List ℕ → Type 0 where
 
 -- [ "(" count["+"] ")" ]
 pub data OptionalCount : List ℕ → Option Count → List ℕ → Type 0 where
-  -- no count: "After `>`, an opening bracket always beginsWith a count"
+  -- no count: "After `>`, an opening bracket always begins a count"
   absent : {l r : List ℕ} → Blanks l r → beginsWith (λ b. isCode b "(") r ≡ false → OptionalCount l none r
-  -- "(" count["+"] ")", count = ("1" | "2" | "3" | "4" | ...): "at least one isDigitSign, then perhaps `+`"; its value is judged later, by number 6
+  -- "(" count["+"] ")", count = ("1" | "2" | "3" | "4" | ...): "at least one digit, then perhaps `+`"; its value is judged later, by number 6
   present : {l m n k j r w : List ℕ} {plus : Bool} → Sign "(" l m → Blanks m n → Word isDigitSign n w k → Optional "+" k plus j → Sign ")" j r
       → OptionalCount l (some (record { digits = w; plus = plus })) r
 

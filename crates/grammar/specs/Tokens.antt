@@ -52,7 +52,7 @@ pub data Optional (c : Char) : List ℕ → Bool → List ℕ → Type 0 where
 
 -- ---- Places
 
--- the bytes w, with which the line's end m beginsWith, stand at s in the line: after all that stands before m
+-- the bytes w, with which the line's end m begins, stand at s in the line: after all that stands before m
 pub record Stands (line m w : List ℕ) (s : Span) : Type 0 where
   pub before : List ℕ
   pub split : line ≡ before ++ m

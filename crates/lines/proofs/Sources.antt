@@ -92,7 +92,7 @@ start-in l = go (leftSide l) (left-in l)
     go EventsRead.broken h = omega arith
     go (events es next) h = h .1
 
--- ---- The limits with that line withinLimits
+-- ---- The limits with that line counted
 
 module _ (ps : List Production) (p : Production) (h : passesLimit (ps ++ (p ∷ [])) ≡ false) where
   pub totals-next : (right : ℕ) → TotalsIn (withLine (totalsOf ps) (lineHeld right p))

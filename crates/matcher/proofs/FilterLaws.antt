@@ -1,4 +1,4 @@
--- An event that mayBegin a production along which a stretch reads as a prefix passes the quick test, and so stands within the
+-- An event that begins a production along which a stretch reads as a prefix passes the quick test, and so stands within the
 -- bounds of those that pass.
 use Prim.Native.Nat.{ℕ, _+_, _-_, _*_, _/_, _%_, _≤_, _<_}
 use native.Mathlib.Omega.{arith}
@@ -314,7 +314,7 @@ module _ (f : ℕ → Bool) where
       let p : j < n = omega arith in
       (omega (arith, w .1 j p q), omega (arith, w .0 j p q))
 
--- an event that does not stand there mayBegin no production along which the stretch reads as a prefix
+-- an event that does not stand there begins no production along which the stretch reads as a prefix
 pub outside-of : (l map : List ℕ) (events : List Event) (from to : ℕ) (f : ℕ → Bool)
     → ((limit first n : ℕ) → 1 ≤ n → first + n ≤ eventTotal l → f first ≡ false → target map limit l first n events from to ≡ Followed.No)
     → (low high : ℕ) → PassersWithin f (eventTotal l) low high → Outside l map (drop from (take to events)) low high

@@ -1,4 +1,4 @@
--- A quick test of the events of a table. One that mayBegin a production along which a stretch reads as a prefix passes it
+-- A quick test of the events of a table. One that begins a production along which a stretch reads as a prefix passes it
 -- (proofs/FilterLaws), so a production whose first event does not pass need not be walked.
 use Prim.Native.Nat.{ℕ, _+_, _/_, _≤_, _<_}
 use mathlib.Core.Path.{_≡_}
@@ -29,7 +29,7 @@ soughtOf map x =
     }
 
 -- the codes are the same but for the last bit, as those of a press and its release are, 2 and 3 or 4 and 5: a counted release
--- mayBegin with a press
+-- begins with a press
 unfoldable pub codeSeems : ℕ → Sought → Bool
 codeSeems own s = eqb (own / 2) (s .code / 2)
 

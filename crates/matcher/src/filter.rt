@@ -53,7 +53,7 @@ pub fn sought_of(map: &[u8], x: Event) -> Sought
 }
 
 // Whether the codes are the same but for the last bit, as those of a press and its release are: 2 and 3 of keys, 4 and 5 of
-// buttons. A counted release mayBegin with a press. Other codes that pass are told apart by the walk.
+// buttons. A counted release begins with a press. Other codes that pass are told apart by the walk.
 fn code_seems(own: u16, s: Sought) -> bool
     ensures { λ r. ⌜ r ≡ codeSeems own s ⌝ }
 {
@@ -103,14 +103,14 @@ fn suits(table: &[u8], i: usize, s: Sought) -> bool
 }
 
 // Whether event i may begin a production for a stretch of one event.
-fn mayBegin(table: &[u8], one: Sought, i: usize) -> bool
+fn begins(table: &[u8], one: Sought, i: usize) -> bool
     requires { ⌜ (tableLength ≤ length (now table)) × (i < 256) ⌝ }
     ensures { λ r. ⌜ r ≡ mayBegin (now (table .entry)) one i ⌝ }
 {
     seems(table, i, one) & suits(table, i, one)
 }
 
-// Whether event i may begin a production for a stretch that mayBegin with `one` and goes on with `two`. In a whole table every
+// Whether event i may begin a production for a stretch that begins with `one` and goes on with `two`. In a whole table every
 // count is at least 1.
 fn pairs(table: &[u8], one: Sought, two: Sought, i: usize) -> bool
     requires { ⌜ (tableLength ≤ length (now table)) × (i < 256) ⌝ }
@@ -175,7 +175,7 @@ pub fn reach_alone(table: &[u8], one: Sought) -> Reach
     let mut turned: u16 = 0;
     let mut i: usize = 0;
     while i < n {
-        let holds = mayBegin(table, one, i);
+        let holds = begins(table, one, i);
         high = high | end_at(i, holds);
         turned = turned | turned_at(i, holds);
         i += 1;

@@ -98,7 +98,7 @@ pub data LineOutcome : Type 0 where
   add : Production → LineOutcome
   refuse : ℕ → LineOutcome
 
--- "then 11 with that line withinLimits"
+-- "then 11 with that line counted"
 abbrev pub withinLimits : List Production → Production → LineOutcome
 withinLimits before p = cond (passesLimit (before ++ (p ∷ []))) (LineOutcome.refuse pastLimit) (add p)
 
@@ -106,7 +106,7 @@ abbrev pub lineJudged : List Production → ℕ → EventsJudged → List Writte
 lineJudged before base (keep es) cs = withinLimits before (record { events = es; calls = map (callOf base) cs })
 lineJudged before base (EventsJudged.refuse n) cs = LineOutcome.refuse n
 
--- "4 for the whole line; then event by event ..; then 11 with that line withinLimits"
+-- "4 for the whole line; then event by event ..; then 11 with that line counted"
 abbrev pub lineFrom : List Production → ℕ → LineRead → LineOutcome
 lineFrom before base broken = LineOutcome.refuse notGrammar
 lineFrom before base (production es cs) = lineJudged before base (judgedAll es) cs

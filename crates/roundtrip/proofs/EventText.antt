@@ -107,7 +107,7 @@ derive-type w r a s =
     (word letterOrDigit w (code ">" ∷ r) a s refl)
     (sign ">" r refl)
 
--- ---- DerivesModifiers
+-- ---- Modifiers
 
 module _ (e : KeptEvent) where
   derive-modifier : (k : ℕ) (bs r : List ℕ) → WellNamed k → all blank bs ≡ true → beginsWith letterOrDigit r ≡ false

@@ -1,4 +1,4 @@
--- The writtenExamples come out byte for byte, by computation.
+-- The examples come out byte for byte, by computation.
 use mathlib.Core.Path.{_≡_, refl}
 use mathlib.Core.Bool.{true}
 use Rattle.model.specs.Bytes.{isAllowed, firstBadByte, isBlank, isDigit, isLetter, belongs, runEnd, skip}

@@ -49,7 +49,7 @@ from-last base s v b (c ∷ w) h e =
     (λ q. rw q (from-last base (s * base + digitValue c) v b w h (rw q at e)))
     (λ q. let f : _≡_ {A = Option ℕ} none (some v) = rw q at e in let z : _≡_ {A = ℕ} 0 1 = cc in absurd (omega arith))
 
--- one isDigitSign, or the digits of the quotient and then the last one
+-- one digit, or the digits of the quotient and then the last one
 in-one : (fuel v : ℕ) → ltb v 16 ≡ true → digitsIn 16 (suc fuel) v ≡ isDigitSign v ∷ []
 unfolding digitsIn
 in-one fuel v q = rw q

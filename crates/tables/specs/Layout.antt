@@ -130,7 +130,7 @@ markWord c = flag 1 (c .second)
 -- ---- A table's entries in production order, with no nesting
 
 module _ {A B : Type 0} where
-  -- the lists of all elements, joinedSections in order
+  -- the lists of all elements, joined in order
   unfoldable pub flat : (A → List B) → List A → List B
   flat f [] = []
   flat f (x ∷ xs) = f x ++ flat f xs

@@ -1,4 +1,4 @@
--- `matcher::filter::mayBegin` meets its contract.
+-- `matcher::filter::begins` meets its contract.
 use mathlib.Core.Path.{ap₂}
 use mathlib.Core.Bool.{_&&_}
 use Rattle.matcher.specs.Filter.{mayBegin}
