@@ -27,7 +27,7 @@ fn table_refusal(table: &[u8]) -> u8
     if table.len() < tables::TABLE_LENGTH {
         return 1;
     }
-    if !tables::check::whole(table) {
+    if !table_check::whole(table) {
         return 12;
     }
     0
@@ -40,7 +40,7 @@ fn lent_refusal(table: &[u8], first: &[u8], second: &[u8]) -> u8
     if table.len() < tables::TABLE_LENGTH {
         return 1;
     }
-    if !tables::check::whole(table) {
+    if !table_check::whole(table) {
         return 12;
     }
     if first.len() < tables::read::first_length(table) {

@@ -24,7 +24,7 @@ use Rattle.tables.specs.Reading.{decode, productionTotal, firstLengthIn, second
 use Rattle.tables.specs.Whole.{whole}
 use Rattle.words.proofs.Laws.{length-zeros}
 use Rattle.tables.proofs.Positions.{cond-both}
-use Rattle.tables.proofs.WholeFacts.{facts-of-whole}
+use Rattle.table_check.proofs.WholeFacts.{facts-of-whole}
 use Rattle.tables.proofs.Theorems.{whole-holds}
 use Rattle.calls.specs.declared.Place.{Place}
 use Rattle.calls.specs.Places.{placeOf}

@@ -22,7 +22,7 @@ use Rattle.machine.specs.Kept.{Kept, Step, moved, chosenIn, choice, passesConte
 use Rattle.tables.specs.Reading.{decode, productionEntry, productionTotal}
 use Rattle.tables.specs.Whole.{whole}
 use Rattle.tables.proofs.Positions.{cond-both}
-use Rattle.tables.proofs.WholeFacts.{facts-of-whole}
+use Rattle.table_check.proofs.WholeFacts.{facts-of-whole}
 use Rattle.matcher.specs.declared.state.State.{State}
 use Rattle.matcher.specs.declared.Answer.{Answer}
 use Rattle.matcher.specs.State.{keptOf, wholeState}

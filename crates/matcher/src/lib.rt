@@ -45,7 +45,7 @@ fn refusal(table: &[u8], map: &[u8], state: State) -> u8
     if map.len() != MAP_BYTES {
         return SHORT_BUFFER;
     }
-    if !tables::check::whole(table) {
+    if !table_check::whole(table) {
         return TABLE_NOT_WHOLE;
     }
     if !state::state_whole(state) {

@@ -12,7 +12,6 @@ use Rattle.model.specs.Lists.{all}
 use Rattle.model.specs.Counts.{elementsOf, expanded}
 use Rattle.model.specs.declared.events.KeptEvent.{KeptEvent}
 use Rattle.counts.specs.Elements.{releases, elementCount}
-use Rattle.tables.specs.Checks.{sizeOf}
 use Rattle.tables.specs.Fitting.{eventInRange}
 use Rattle.tables.proofs.Lists.{all-at}
 use Rattle.tables.proofs.Sizes.{length-elements}
@@ -20,7 +19,6 @@ use Rattle.tables.proofs.EventWords.{range-facts}
 use Rattle.tables.proofs.Encoded.{noEvent}
 
 pub element-size : (e : KeptEvent) → elementCount (e .code) (e .count) ≡ length (elementsOf e)
-unfolding elementCount releases sizeOf
 element-size e = sym (length-elements e)
 
 pub count-small : (code n : ℕ) → n ≤ 9 → elementCount code n ≤ 18

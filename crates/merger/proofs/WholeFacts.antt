@@ -17,12 +17,12 @@ use Rattle.tables.specs.Layout.{callParametersAt, flat, allCalls, allParameters
 use Rattle.tables.specs.Reading.{firstLengthIn, productionTotal, callTotal, parameterTotal, parameterEntry, nameEntry, callParameters, firstParameter, callEntry, eventEntry, productionEvents, productionCalls, firstEvent, firstCall, productionEntry, decode}
 use Rattle.tables.specs.Fitting.{eventInRange, fitting}
 use Rattle.tables.specs.Whole.{whole}
-use Rattle.tables.specs.Checks.{lengthOfText}
+use Rattle.span_check.specs.Spans.{lengthOfText}
 use Rattle.tables.proofs.Lists.{all-at, each-getD}
 use Rattle.tables.proofs.Facts.{FitFacts, fit-facts, text-facts, short-span, short-spans, short-facts, LimitFacts, limit-facts}
 use Rattle.tables.proofs.Theorems.{whole-holds, holds-split, whole-length}
-use Rattle.tables.proofs.CheckFacts.{CheckFacts, events-within, calls-within}
-use Rattle.tables.proofs.Exact.{whole-facts}
+use Rattle.table_check.proofs.CheckFacts.{CheckFacts, events-within, calls-within}
+use Rattle.table_check.proofs.Exact.{whole-facts}
 use Rattle.tables.proofs.Encoded as enc
 use Rattle.tables.proofs.MergedFits.{flat-all}
 

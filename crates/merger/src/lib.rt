@@ -21,10 +21,10 @@ fn judged(old: &[u8], new: &[u8]) -> u8
     requires { ⌜ (tableLength ≤ length (now old)) × (tableLength ≤ length (now new)) ⌝ }
     ensures { λ r. ⌜ r ≡ mergeOrder false false false (not (whole (now (old .entry)))) (not (whole (now (new .entry)))) (decode (now (old .entry)) .merged) (decode (now (new .entry)) .merged) (mergePassesLimit (decode (now (old .entry))) (decode (now (new .entry)))) ⌝ }
 {
-    if !tables::check::whole(old) {
+    if !table_check::whole(old) {
         return 12;
     }
-    if !tables::check::whole(new) {
+    if !table_check::whole(new) {
         return 12;
     }
     if tables::read::merged(old) {

@@ -7,7 +7,7 @@ use mathlib.Core.Bool.{Bool, true, false, cond}
 use lib.ListN.{length}
 use Rattle.model.specs.declared.scan.Span.{Span}
 use Rattle.tables.specs.Reading.{firstLengthIn, secondLengthIn, callTotal, callParameters, firstParameter, parameterEntry, markEntry, nameEntry}
-use Rattle.tables.proofs.WholeFacts.{WholeFacts, facts-of-whole}
+use Rattle.table_check.proofs.WholeFacts.{WholeFacts, facts-of-whole}
 use Rattle.printer.specs.Ready.{WriteReady}
 
 -- a part of the text that a mark names, of at most 8,192 bytes

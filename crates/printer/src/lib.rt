@@ -33,7 +33,7 @@ pub fn write(table: &[u8], first: &[u8], second: &[u8], out: &mut [u8]) -> Writt
     if table.len() < tables::TABLE_LENGTH {
         return Written::Refused(1);
     }
-    if !tables::check::whole(table) {
+    if !table_check::whole(table) {
         return Written::Refused(12);
     }
     if first.len() < tables::read::first_length(table) {

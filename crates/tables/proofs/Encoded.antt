@@ -1,5 +1,5 @@
 -- A table within limits and ranges, as bytes, reads as itself.
-use Prim.Native.Nat.{ℕ, _+_, _-_, _≤_, _<_}
+use Prim.Native.Nat.{ℕ, _+_, _≤_, _<_}
 use native.Mathlib.Omega.{arith}
 use native.Mathlib.Nat.{zero-add}
 use mathlib.Core.Path.{_≡_, refl, sym, ap, _∙_}
@@ -23,7 +23,7 @@ use Rattle.tables.specs.Layout.{productionEventsAt, productionCallsAt, c
 use Rattle.tables.specs.Reading.{directiveFromWord, directiveIn, mergedIn, firstLengthIn, secondLengthIn, productionTotal, parameterEntry, markEntry, nameEntry, callParameters, firstParameter, callEntry, eventEntry, productionEvents, productionCalls, firstEvent, firstCall, productionEntry, decode}
 use Rattle.tables.specs.Fitting.{eventInRange, fitting}
 use Rattle.tables.proofs.Lists.{each-getD, nested}
-use Rattle.tables.proofs.EventWords.{RangeFacts, range-facts, flags-below, event-back}
+use Rattle.tables.proofs.EventWords.{flag-le, RangeFacts, range-facts, flags-below, event-back}
 use Rattle.tables.proofs.Sizes.{length-expanded, length-le-size}
 use Rattle.tables.proofs.Facts.{FitFacts, fit-facts, TextFacts, text-facts, short-span, short-spans, short-names, short-facts, ProductionFacts, production-facts, LimitFacts, limit-facts, events-in-all, calls-in-all, parameters-in-all, few-parameters}
 use Rattle.tables.proofs.Images.{Room, section-word}
@@ -58,10 +58,6 @@ pub event-small : (e : KeptEvent) → eventInRange e ≡ true → EventSmall e
 event-small e h =
     let r : RangeFacts e = range-facts e h in
     record { code = omega arith; count = omega arith; set = r .setBelow; clear = r .clearBelow; value = r .detail }
-
-flag-small : (v : ℕ) (b : Bool) → flag v b ≤ v
-flag-small v true = omega arith
-flag-small v false = omega arith
 
 directive-small : (d : Directive) → directiveWord d ≤ 2
 directive-small Directive.Replace = omega arith
@@ -212,7 +208,7 @@ module _ (t : Table) (fit : fitting t ≡ true) (rest : List ℕ) where
   unfolding entriesOf sectionsOf
   mark-word i h =
       let m : getD (map (λ (x : Call). markWord x) cs) i 0 ≡ markWord (getD cs i noCall) = List·getD-map (λ (x : Call). markWord x) cs i noCall in
-      word 10 i h (rw m (let b = flag-small 1 (getD cs i noCall .second) in omega arith)) ∙ m
+      word 10 i h (rw m (let b = flag-le 1 (getD cs i noCall .second) in omega arith)) ∙ m
 
   pub name-start-word : (i : ℕ) → i < 128 → wordAt l (nameStartsAt + i) ≡ (getD cs i noCall) .name .start
   unfolding entriesOf sectionsOf
@@ -311,7 +307,7 @@ module _ (t : Table) (fit : fitting t ≡ true) (rest : List ℕ) where
 
   pub merged-word : wordAt l 1 ≡ flag 1 (t .merged)
   unfolding headerOf
-  merged-word = header-word 1 (omega arith) (let b = flag-small 1 (t .merged) in omega arith)
+  merged-word = header-word 1 (omega arith) (let b = flag-le 1 (t .merged) in omega arith)
 
   pub first-word : wordAt l 2 ≡ t .firstLength
   unfolding headerOf

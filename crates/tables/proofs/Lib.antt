@@ -6,16 +6,7 @@ pub mod Facts
 pub mod Images
 pub mod Encoded
 pub mod Theorems
-pub mod Checked
-pub mod CheckFacts
-pub mod Decoded
-pub mod Exact
-pub mod LoopLaws
-pub mod Joined
-pub mod Entries
-pub mod Shortcuts
 pub mod Written
-pub mod WholeFacts
 pub mod Positions
 pub mod CallSpans
 pub mod EventsRead

@@ -11,7 +11,7 @@ use Rattle.model.specs.Asking.{partBytes}
 use Rattle.model.specs.Canonical.{joinedBy, each, parameterText, callText}
 use Rattle.model.specs.declared.scan.Span.{Span}
 use Rattle.tables.specs.Reading.{callEntry, parameterEntry, firstParameter, callParameters, markEntry, nameEntry}
-use Rattle.tables.proofs.WholeFacts.{WholeFacts}
+use Rattle.table_check.proofs.WholeFacts.{WholeFacts}
 use Rattle.printer.proofs.ReadyFacts.{Within, ready-facts, name-within}
 use Rattle.printer.proofs.calls.put_call.Statement.{statement}
 use Rattle.printer.proofs.calls.put_call.Tie as tie

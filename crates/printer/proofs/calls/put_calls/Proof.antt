@@ -8,7 +8,7 @@ use mathlib.Core.List.{List, [], _∷_, _++_}
 use Rattle.words.specs.Runs.{run}
 use Rattle.model.specs.Canonical.{joinedBy, each, callText}
 use Rattle.tables.specs.Reading.{callEntry}
-use Rattle.tables.proofs.WholeFacts.{WholeFacts}
+use Rattle.table_check.proofs.WholeFacts.{WholeFacts}
 use Rattle.printer.specs.Overlay.{Put, separator}
 use Rattle.printer.proofs.RunJoined.{run-joined, run-joined-none}
 use Rattle.printer.proofs.ReadyFacts.{ready-facts}

@@ -10,7 +10,7 @@ use Rattle.words.specs.Runs.{run}
 use Rattle.model.specs.Canonical.{joinedBy, each, parameterText}
 use Rattle.model.specs.declared.scan.Span.{Span}
 use Rattle.tables.specs.Reading.{parameterEntry, firstParameter, callParameters, markEntry}
-use Rattle.tables.proofs.WholeFacts.{WholeFacts}
+use Rattle.table_check.proofs.WholeFacts.{WholeFacts}
 use Rattle.printer.specs.Overlay.{Put, separator}
 use Rattle.printer.proofs.RunJoined.{run-joined, run-joined-none}
 use Rattle.printer.proofs.ReadyFacts.{Within, ready-facts, parameter-within}

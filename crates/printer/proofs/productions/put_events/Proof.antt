@@ -11,7 +11,7 @@ use Rattle.model.specs.Canonical.{joinedBy, each, eventText}
 use Rattle.model.specs.declared.events.KeptEvent.{KeptEvent}
 use Rattle.tables.specs.Reading.{eventEntry}
 use Rattle.tables.specs.Fitting.{eventInRange}
-use Rattle.tables.proofs.WholeFacts.{WholeFacts, facts-of-whole, event-range}
+use Rattle.table_check.proofs.WholeFacts.{WholeFacts, facts-of-whole, event-range}
 use Rattle.printer.specs.Overlay.{Put, separator}
 use Rattle.printer.proofs.RunJoined.{run-joined, run-joined-none}
 use Rattle.printer.proofs.productions.put_events.Statement.{statement}

@@ -10,7 +10,7 @@ use Rattle.model.specs.Canonical.{productionsText}
 use Rattle.tables.specs.Reading.{productionEntry, productionTotal}
 use Rattle.printer.specs.Overlay.{Put}
 use Rattle.printer.proofs.RunJoined.{productions-none, productions-step}
-use Rattle.tables.proofs.WholeFacts.{WholeFacts}
+use Rattle.table_check.proofs.WholeFacts.{WholeFacts}
 use Rattle.printer.proofs.ReadyFacts.{ready-facts}
 use Rattle.printer.proofs.productions.put_productions.Statement.{statement}
 use Rattle.printer.proofs.productions.put_productions.Tie as tie
