@@ -9,9 +9,9 @@ use Rattle.model.specs.Lists.{part}
 use Rattle.model.specs.Events.{Modifier, name, keysym, listed, Modifiers, modifiers, oneMore, modifierAt, modifiersNext, modifiersFrom, modifiersAt}
 use Rattle.model.specs.Names.{modifierNamed}
 use Rattle.model.specs.declared.scan.ModifierRead.{ModifierRead}
-use Rattle.scanner.specs.ModifierLists.{modifiersIn}
+use Rattle.list_scanner.specs.ModifierLists.{modifiersIn}
 use Rattle.scanner.proofs.Ranges.{ModifierIn, modifier-in}
-use Rattle.scanner.proofs.ListSteps.{modifiers-step}
+use Rattle.list_scanner.proofs.ListSteps.{modifiers-step}
 use Rattle.judge.specs.declared.lists.ListSummary.{ListSummary}
 use Rattle.judge.specs.Summary.{summaryOf, withName, withKeysym, SummaryIn}
 use Rattle.judge.proofs.Listed.{summary-name, summary-keysym, summary-in}

@@ -209,7 +209,7 @@ pub fn detail_of(ty: EventType, word: &[u8]) -> DetailSummary
     }
     match fixed {
         Detail::Value(_) => of_read(DetailRead::Unknown),
-        Detail::Unspecified => of_read(names::detail_named(ty.code, word)),
+        Detail::Unspecified => of_read(lookup::detail_named(ty.code, word)),
     }
 }
 

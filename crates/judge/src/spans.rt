@@ -6,22 +6,22 @@ use crate::events::judge_parts;
 use crate::lists::ListSummary;
 use crate::lists::with_keysym;
 use crate::lists::with_name;
+use event_scanner::events::CountSpan;
+use event_scanner::events::EventSpans;
+use event_scanner::events::ListSpans;
+use list_scanner::lists::ListKind;
+use list_scanner::modifiers::modifier_at;
 use model::answers::Judged;
 use model::names::TypeName;
 use model::scan::ModifierRead;
-use scanner::events::CountSpan;
-use scanner::events::EventSpans;
-use scanner::events::ListSpans;
-use scanner::lists::ListKind;
-use scanner::modifiers::modifier_at;
 ghost use mathlib.Core.Path.{_≡_};
 ghost use mathlib.Core.List.{[]};
 ghost use Prim.Native.Nat.{_≤_};
 ghost use lib.ListN.{length};
 ghost use Rattle.model.specs.Events.{listed, modifiersAt};
 ghost use Rattle.model.specs.Judging.{judgedWritten};
-ghost use Rattle.scanner.specs.ModifierLists.{modifiersIn};
-ghost use Rattle.scanner.specs.Spans.{listIn, countIn};
+ghost use Rattle.list_scanner.specs.ModifierLists.{modifiersIn};
+ghost use Rattle.event_scanner.specs.Spans.{listIn, countIn};
 ghost use Rattle.judge.specs.Summary.{summaryOf};
 ghost use Rattle.judge.specs.Judged.{countSummary};
 ghost use Rattle.judge.specs.Spans.{loneListOf, writtenIn, CountSpanIn, SpansIn};
@@ -68,7 +68,7 @@ pub fn modifiers_from(l: &[u8], bang: bool, colon: bool, at: usize) -> ListSumma
             ModifierRead::Broken => return led(bang, colon),
             ModifierRead::End(_) => return s,
             ModifierRead::Name { tilde, start, end } => {
-                let name = names::modifier_named(&l[start..end]);
+                let name = lookup::modifier_named(&l[start..end]);
                 s = with_name(s, tilde, name);
                 i = end;
             }
@@ -121,7 +121,7 @@ pub fn judge_event(l: &[u8], e: EventSpans) -> Judged
     let detail = e.detail;
     let start = name.start;
     let end = name.end;
-    match names::type_named(&l[start..end]) {
+    match lookup::type_named(&l[start..end]) {
         TypeName::Unknown => Judged::Refuse(5),
         TypeName::Known(ty) => {
             let s = list_of(l, list);
