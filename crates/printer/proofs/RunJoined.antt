@@ -8,8 +8,8 @@ use Rattle.words.specs.Runs.{run}
 use Rattle.words.proofs.RunLaws.{run-more, length-run}
 use Rattle.model.specs.Canonical.{joinedBy, each, productionText, productionsText}
 use Rattle.model.specs.Tables.{Production}
-use Rattle.printer.specs.Overlay.{separator}
-use Rattle.printer.proofs.Joined.{joined-more}
+use Rattle.writing.specs.Overlay.{separator}
+use Rattle.writing.proofs.Joined.{joined-more}
 
 module _ {A : Type 0} (w : A → List ℕ) (b : ℕ) (f : ℕ → A) (s : ℕ) where
   pub run-joined-none : [] ≡ joinedBy (b ∷ []) (each w (run f s 0))

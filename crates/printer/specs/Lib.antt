@@ -1,4 +1,2 @@
-pub mod Overlay
-pub mod Places
 pub mod Ready
 pub mod Write

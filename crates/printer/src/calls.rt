@@ -1,6 +1,6 @@
 // Calls as they are written, their names and parameters copied from the text that each came from.
-use crate::bytes;
 use model::scan::Span;
+use writing::bytes;
 ghost use mathlib.Core.Bool.{cond};
 ghost use Prim.Native.Nat.{_+_, _≤_, _<_};
 ghost use lib.ListN.{length};
@@ -9,7 +9,7 @@ ghost use Rattle.model.specs.Lists.{bytes};
 ghost use Rattle.model.specs.Asking.{partBytes};
 ghost use Rattle.model.specs.Canonical.{joinedBy, each, parameterText, callText};
 ghost use Rattle.tables.specs.Reading.{callTotal, callEntry, markEntry, parameterEntry, firstParameter, callParameters};
-ghost use Rattle.printer.specs.Overlay.{Put};
+ghost use Rattle.writing.specs.Overlay.{Put};
 ghost use Rattle.printer.specs.Ready.{WriteReady};
 
 // A part of the second text where the mark is set, of the first otherwise.

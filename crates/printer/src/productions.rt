@@ -1,7 +1,6 @@
 // Productions as they are written, one a line.
-use crate::bytes;
 use crate::calls;
-use crate::events;
+use writing::bytes;
 ghost use mathlib.Core.Path.{_≡_};
 ghost use mathlib.Core.Bool.{true};
 ghost use Prim.Native.Nat.{_+_, _≤_, _<_};
@@ -10,7 +9,7 @@ ghost use Rattle.model.specs.Lists.{bytes};
 ghost use Rattle.model.specs.Canonical.{joinedBy, each, eventText, productionText, productionsText};
 ghost use Rattle.tables.specs.Whole.{whole};
 ghost use Rattle.tables.specs.Reading.{eventTotal, eventEntry, productionTotal, productionEntry};
-ghost use Rattle.printer.specs.Overlay.{Put};
+ghost use Rattle.writing.specs.Overlay.{Put};
 ghost use Rattle.printer.specs.Ready.{WriteReady};
 
 // n events, from event `from` on.
@@ -23,7 +22,7 @@ fn put_events(out: &mut [u8], at: usize, l: &[u8], from: usize, n: usize) -> usi
     while k < n {
         let e = tables::read::event_at(l, from + k);
         next = bytes::put_separator(out, next, k, b',');
-        next = events::put_event(out, next, e);
+        next = event_text::put_event(out, next, e);
         k += 1;
     }
     next

@@ -2,7 +2,7 @@
 use borrow.Author.Needs.{needs}
 use native.Mathlib.Omega.{arith}
 use mathlib.Core.Path.{_≡_, sym, ap, _∙_}
-use Rattle.printer.proofs.Laws.{put-none, put-then, put-as, put-length}
+use Rattle.writing.proofs.Laws.{put-none, put-then, put-as, put-length}
 use Prim.Native.Nat.{ℕ, _+_, _*_, _-_, _≤_}
 use mathlib.Core.List.{List, [], _∷_, _++_}
 use mathlib.Core.Bool.{Bool}
@@ -11,7 +11,7 @@ use Rattle.model.specs.Canonical.{joinedBy, each, parameterText}
 use Rattle.model.specs.declared.scan.Span.{Span}
 use Rattle.tables.specs.Reading.{parameterEntry, firstParameter, callParameters, markEntry}
 use Rattle.table_check.proofs.WholeFacts.{WholeFacts}
-use Rattle.printer.specs.Overlay.{Put, separator}
+use Rattle.writing.specs.Overlay.{Put, separator}
 use Rattle.printer.proofs.RunJoined.{run-joined, run-joined-none}
 use Rattle.printer.proofs.ReadyFacts.{Within, ready-facts, parameter-within}
 use Rattle.printer.proofs.calls.put_parameters.Statement.{statement}

@@ -2,7 +2,7 @@
 use borrow.Author.Needs.{needs}
 use native.Mathlib.Omega.{arith}
 use mathlib.Core.Path.{_≡_, sym, ap, _∙_}
-use Rattle.printer.proofs.Laws.{put-none, put-then, put-as, put-length}
+use Rattle.writing.proofs.Laws.{put-none, put-then, put-as, put-length}
 use Prim.Native.Nat.{ℕ, _+_, _*_, _-_, _≤_, _<_}
 use mathlib.Core.List.{List, [], _∷_, _++_}
 use mathlib.Core.Bool.{true}
@@ -12,7 +12,7 @@ use Rattle.model.specs.declared.events.KeptEvent.{KeptEvent}
 use Rattle.tables.specs.Reading.{eventEntry}
 use Rattle.tables.specs.Fitting.{eventInRange}
 use Rattle.table_check.proofs.WholeFacts.{WholeFacts, facts-of-whole, event-range}
-use Rattle.printer.specs.Overlay.{Put, separator}
+use Rattle.writing.specs.Overlay.{Put, separator}
 use Rattle.printer.proofs.RunJoined.{run-joined, run-joined-none}
 use Rattle.printer.proofs.productions.put_events.Statement.{statement}
 use Rattle.printer.proofs.productions.put_events.Tie as tie
