@@ -3,7 +3,6 @@ use Prim.Native.Nat.{ℕ}
 use mathlib.Core.Path.{_≡_, refl}
 use mathlib.Core.Bool.{Bool, true, false}
 use mathlib.Core.Option.{Option, none, some}
-use mathlib.Core.List.{List}
 use lib.Dec.{eqb}
 use Rattle.model.specs.Numbers.{matchedNumber, matchedSelection}
 use Rattle.model.specs.Tables.{Table}

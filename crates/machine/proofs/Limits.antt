@@ -1,5 +1,5 @@
 -- On a table that passes no limit no stretch that reads as a prefix is longer than 24 events, so that 15 is never given.
-use Prim.Native.Nat.{ℕ, suc, _≤_, _<_}
+use Prim.Native.Nat.{ℕ, _≤_, _<_}
 use native.Mathlib.Omega.{arith}
 use borrow.Author.Tests.{ltb-true, ltb-false}
 use mathlib.Core.Path.{_≡_, refl, ap, _∙_}
@@ -19,7 +19,7 @@ use Rattle.model.specs.Matching.{fits, follows, readsAsPrefix, readingOf}
 use Rattle.model.specs.declared.events.Event.{Event}
 use Rattle.model.specs.declared.answers.RecordRead.{RecordRead}
 use Rattle.machine.specs.Never.{NeverFull}
-use Rattle.machine.specs.Kept.{Kept, contextLimit, longestEnd, grown, unused, moved, passesContext}
+use Rattle.machine.specs.Kept.{Kept, contextLimit, longestEnd, grown, unused, moved}
 use Rattle.machine.proofs.Tests.{any-in, and-right, or-cases, or-no-left, or-no-right}
 
 and-false : (b : Bool) → b && false ≡ false
