@@ -22,11 +22,11 @@ use Rattle.keyboard.specs.Maps.{mapNumbers}
 use Rattle.tables.specs.Reading.{decode}
 use Rattle.tables.specs.Whole.{whole}
 use Rattle.tables.proofs.Positions.{cond-both}
-use Rattle.matcher.specs.declared.state.State.{State}
-use Rattle.matcher.specs.State.{wholeState, keptOf}
+use Rattle.states.specs.declared.State.{State}
+use Rattle.states.specs.State.{wholeState, keptOf}
 use Rattle.matcher.specs.declared.Answer.{Answer}
 use Rattle.matcher.specs.Match.{stepAnswer, refusedWith, tooShort, matchNumber, callAnswer}
-use Rattle.matcher.proofs.StateLaws.{state-facts}
+use Rattle.states.proofs.StateLaws.{state-facts}
 use Rattle.capi.specs.State.{stateLength, store, load}
 use Rattle.capi.specs.Match.{stored, keeps, leftBy, matchedOn, stateLeft}
 use Rattle.capi.specs.Laws.{CallLaws, EveryCall}

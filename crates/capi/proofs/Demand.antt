@@ -23,11 +23,11 @@ use Rattle.machine.proofs.Viewed.{viewed}
 use Rattle.tables.specs.Layout.{encode}
 use Rattle.tables.specs.Reading.{decode}
 use Rattle.tables.proofs.Positions.{cond-both}
-use Rattle.matcher.specs.declared.state.State.{State}
+use Rattle.states.specs.declared.State.{State}
 use Rattle.matcher.specs.declared.Answer.{Answer}
-use Rattle.matcher.specs.State.{wholeState, freshState, keptOf, stateKeeping}
+use Rattle.states.specs.State.{wholeState, freshState, keptOf, stateKeeping}
 use Rattle.matcher.specs.Match.{stepAnswer, refusedWith, matchNumber, callAnswer}
-use Rattle.matcher.proofs.StateLaws.{state-facts, state-kept, fresh-whole}
+use Rattle.states.proofs.StateLaws.{state-facts, state-kept, fresh-whole}
 use Rattle.matcher.proofs.NextLaws.{step-whole}
 use Rattle.claims.specs.Matching.{matcherOn}
 use Rattle.claims.proofs.Matching.{demand3-on-bytes}

@@ -23,9 +23,9 @@ use Rattle.tables.specs.Reading.{decode, productionEntry, productionTotal}
 use Rattle.tables.specs.Whole.{whole}
 use Rattle.tables.proofs.Positions.{cond-both}
 use Rattle.table_check.proofs.WholeFacts.{facts-of-whole}
-use Rattle.matcher.specs.declared.state.State.{State}
+use Rattle.states.specs.declared.State.{State}
 use Rattle.matcher.specs.declared.Answer.{Answer}
-use Rattle.matcher.specs.State.{keptOf, wholeState}
+use Rattle.states.specs.State.{keptOf, wholeState}
 use Rattle.keyboard.specs.Maps.{mapNumbers}
 use Rattle.matcher.specs.Match.{matchAnswer, stepAnswer, refusedWith, tooShort, matchNumber, callAnswer}
 use Rattle.capi.specs.State.{load}

@@ -13,7 +13,7 @@ use mir.Val.{boolByte}
 use Rattle.words.specs.Words.{wordBytes, wordAt, putWord, zeros}
 use Rattle.words.proofs.Images.{length-bytes}
 use Rattle.words.proofs.Laws.{length-zeros}
-use Rattle.matcher.specs.declared.state.State.{State}
+use Rattle.states.specs.declared.State.{State}
 use Rattle.capi.specs.State.{marksOf, store, marksRead, loadEvents, load}
 
 -- ---- A copy, byte by byte

@@ -13,10 +13,10 @@ use Rattle.words.specs.Runs.{run}
 use Rattle.words.proofs.Bools.{and-left, and-right}
 use Rattle.words.proofs.Laws.{length-zeros, getD-zeros}
 use Rattle.words.proofs.Images.{word-image, bytes-run}
-use Rattle.matcher.specs.declared.state.State.{State}
-use Rattle.matcher.specs.State.{wholeState, inSlots, stateWith, freshState}
-use Rattle.matcher.specs.State as slots
-use Rattle.matcher.proofs.StateLaws.{StateFacts, state-facts}
+use Rattle.states.specs.declared.State.{State}
+use Rattle.states.specs.State.{wholeState, inSlots, stateWith, freshState}
+use Rattle.states.specs.State as slots
+use Rattle.states.proofs.StateLaws.{StateFacts, state-facts}
 use Rattle.capi.specs.State.{marksOf, store, marksRead, loadEvents, load}
 use Rattle.capi.specs.Laws.{StateLaws}
 use Rattle.capi.proofs.StateBytes.{state-path, length-marks}

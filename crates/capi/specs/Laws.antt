@@ -10,8 +10,8 @@ use Rattle.model.specs.Numbers.{stateNotWhole, matchedNumber, matchedSelection}
 use Rattle.model.specs.declared.answers.Matched.{Matched}
 use Rattle.keyboard.specs.Maps.{mapNumbers}
 use Rattle.tables.specs.Whole.{whole}
-use Rattle.matcher.specs.declared.state.State.{State}
-use Rattle.matcher.specs.State.{wholeState}
+use Rattle.states.specs.declared.State.{State}
+use Rattle.states.specs.State.{wholeState}
 use Rattle.matcher.specs.Match.{tooShort}
 use Rattle.capi.specs.State.{stateLength, store, load}
 use Rattle.capi.specs.Match.{matchedOn, stateLeft}

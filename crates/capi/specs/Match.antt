@@ -8,9 +8,9 @@ use lib.ListN.{length, drop}
 use Rattle.model.specs.Numbers.{noRefusal, shortBuffer, matchedNumber, matchedSelection}
 use Rattle.model.specs.declared.answers.Matched.{Matched}
 use Rattle.keyboard.specs.Maps.{mapNumbers}
-use Rattle.matcher.specs.declared.state.State.{State}
+use Rattle.states.specs.declared.State.{State}
 use Rattle.matcher.specs.declared.Answer.{Answer}
-use Rattle.matcher.specs.State.{freshState}
+use Rattle.states.specs.State.{freshState}
 use Rattle.matcher.specs.Match.{matchAnswer}
 use Rattle.capi.specs.State.{stateLength, store, load}
 

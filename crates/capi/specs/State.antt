@@ -6,7 +6,7 @@ use mathlib.Core.List.{List, [], _∷_, _++_}
 use lib.Dec.{eqb, leb}
 use lib.ListN.{take, drop}
 use Rattle.words.specs.Words.{wordBytes, wordAt, zeros}
-use Rattle.matcher.specs.declared.state.State.{State}
+use Rattle.states.specs.declared.State.{State}
 
 -- how many bytes a state has
 abbrev pub stateLength : ℕ

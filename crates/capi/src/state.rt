@@ -1,6 +1,6 @@
 // The matcher's state as 200 lent bytes (docs/LAYOUT.md): loaded and stored exactly.
-use matcher::state::State;
 use model::answers::Matched;
+use states::State;
 ghost use mathlib.Core.Path.{_≡_};
 ghost use mathlib.Core.List.{[], _∷_, _++_};
 ghost use mathlib.Core.Bool.{cond};

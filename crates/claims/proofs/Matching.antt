@@ -20,11 +20,11 @@ use Rattle.tables.specs.Layout.{tableLength, encode}
 use Rattle.tables.specs.Fitting.{fitting}
 use Rattle.tables.proofs.Theorems.{decode-encode, length-encode, whole-encode}
 use Rattle.tables.proofs.AcceptedFits.{accepted-fits}
-use Rattle.matcher.specs.declared.state.State.{State}
+use Rattle.states.specs.declared.State.{State}
 use Rattle.matcher.specs.declared.Answer.{Answer}
-use Rattle.matcher.specs.State.{keptOf, stateKeeping, wholeState}
+use Rattle.states.specs.State.{keptOf, stateKeeping, wholeState}
 use Rattle.matcher.specs.Match.{stepAnswer, refusedWith, tooShort, matchNumber, callAnswer}
-use Rattle.matcher.proofs.StateLaws.{state-facts, kept-bounded, kept-state, state-kept, fresh-whole, fresh-kept}
+use Rattle.states.proofs.StateLaws.{state-facts, kept-bounded, kept-state, state-kept, fresh-whole, fresh-kept}
 use Rattle.matcher.proofs.NextLaws.{step-whole}
 use Rattle.claims.specs.Matching.{matcherOn, Demand3OnBytes}
 

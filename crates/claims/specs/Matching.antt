@@ -6,8 +6,8 @@ use mathlib.Core.List.{List, _++_}
 use Rattle.model.specs.Tables.{Table}
 use Rattle.model.specs.Demand.{MatchCall, Matcher, Accepted, Demand3}
 use Rattle.tables.specs.Layout.{encode}
-use Rattle.matcher.specs.declared.state.State.{State}
-use Rattle.matcher.specs.State.{freshState}
+use Rattle.states.specs.declared.State.{State}
+use Rattle.states.specs.State.{freshState}
 use Rattle.matcher.specs.Match.{matchAnswer}
 
 -- calls of `match_event` on these bytes of a table, one keyboard map and one multi-click time, from `State::fresh()`

@@ -2,9 +2,9 @@
 // against the table, and each call that is selected is printed. The third click does not pair with the second, two clicks
 // across the wrap of the server's 32-bit clock pair only where they are quick, and Caps Lock changes nothing.
 use libc::STDOUT_FILENO;
-use matcher::state::State;
 use model::answers::Compiled;
 use model::answers::Matched;
+use states::State;
 
 // Two presses less than this many milliseconds apart are a double click.
 const MULTI_CLICK_TIME: u32 = 200;

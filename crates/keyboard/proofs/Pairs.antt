@@ -1,27 +1,31 @@
--- The model's test of a kept event, by the numbers that a table holds of it; the settings of Shift and Lock, one by one.
+-- The model's test, by the numbers that a table holds of it; the settings of Shift and Lock, one by one.
 use Prim.Native.Nat.{ℕ, _≤_}
 use native.Mathlib.Omega.{arith}
 use mathlib.Core.Path.{_≡_, refl, sym, ap, _∙_}
-use mathlib.Core.List.{List}
 use mathlib.Core.Bool.{Bool, true, false, _&&_, _||_, false≢true}
 use lib.Dec.{eqb, leb}
 use borrow.Author.Tests.{leb-true}
 use Rattle.model.specs.Bytes.{inRange}
 use Rattle.model.specs.Keyboard.{isLower, isUpper, keysymOf, pairMatches, keyMatches, firstKeysym, secondKeysym, matchesWithColon, matchesWithout}
 use Rattle.model.specs.Modifiers.{bit}
+use Rattle.model.specs.Setting.{Setting}
+use Rattle.model.specs.Asked.{Test, asked}
 use Rattle.model.specs.declared.events.KeptEvent.{KeptEvent}
 use Rattle.keyboard.specs.Pairs.{pairAsked, lockGives, pairGives}
 
-pub pair-matches : (e : KeptEvent) (a b state detail : ℕ)
-    → pairMatches e a b state detail ≡ pairAsked (e .set) (e .clear) (e .colon) a b state detail
+pub pair-matches : (t : Test) (colon : Bool) (a b state detail : ℕ)
+    → pairMatches t colon a b state detail ≡ pairAsked (t .set) (t .clear) colon a b state detail
 unfolding pairMatches pairAsked
-pair-matches e a b state detail = refl
+pair-matches t colon a b state detail = refl
 
-pub key-matches : (map : List ℕ) (e : KeptEvent) (keycode state detail : ℕ)
-    → keyMatches map e keycode state detail
-    ≡ pairAsked (e .set) (e .clear) (e .colon) (firstKeysym map keycode) (secondKeysym map keycode) state detail
+pub key-matches : (setting : Setting) (e : KeptEvent) (keycode state detail : ℕ)
+    → keyMatches setting e keycode state detail
+    ≡ pairAsked (asked setting e .set) (asked setting e .clear) (e .colon)
+    (firstKeysym (setting .keyboard) keycode) (secondKeysym (setting .keyboard) keycode) state detail
 unfolding keyMatches
-key-matches map e keycode state detail = pair-matches e (firstKeysym map keycode) (secondKeysym map keycode) state detail
+key-matches setting e keycode state detail =
+    pair-matches (asked setting e) (e .colon)
+    (firstKeysym (setting .keyboard) keycode) (secondKeysym (setting .keyboard) keycode) state detail
 
 or-false : (b : Bool) → b || false ≡ b
 or-false true = refl

@@ -13,7 +13,7 @@ use Rattle.keyboard.specs.declared.Pair.{Pair}
 abbrev pub pairAt : List ℕ → ℕ → Pair
 pairAt map keycode = record { first = firstKeysym map keycode; second = secondKeysym map keycode }
 
--- `pairMatches` of a kept event that asks these bits set and clear and has this colon (proofs/Pairs shows that it is the same)
+-- `pairMatches` of a test that asks these bits set and clear, and this colon (proofs/Pairs shows that it is the same)
 unfoldable pub pairAsked : ℕ → ℕ → Bool → ℕ → ℕ → ℕ → ℕ → Bool
 pairAsked set clear colon a b state detail =
     cond colon

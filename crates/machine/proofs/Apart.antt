@@ -2,7 +2,7 @@
 use Prim.Native.Nat.{ℕ, zero, suc, max, _-_, _≤_, _<_}
 use native.Mathlib.Omega.{arith}
 use native.Mathlib.Nat.{eq-or-lt-of-le}
-use mathlib.Core.Path.{_≡_, refl, sym, ap}
+use mathlib.Core.Path.{_≡_, refl, sym, ap, _∙_}
 use mathlib.Core.Logic.{_⊎_, inl, inr, ⊎-elim}
 use mathlib.Core.Bool.{Bool, true, false}
 use mathlib.Core.Option.{Option, none, some}
@@ -99,8 +99,14 @@ module _ {E : Type 0} (R : Reading E) (h : List E) where
       (λ (q : i < suc j). later-next i j (later i j (omega arith) e))
       (eq-or-lt-of-le l)
 
-  -- where something is selected at event i, every later stretch has the start of that of i, or begins after i
+  -- where something is selected at event i, every later context begins where that of i does, or after i
   pub apart :
-      (i j : ℕ) → i ≤ j → given (standing R h i .selected) ≡ true
-      → (standing R h i .latest ≡ standing R h j .latest) ⊎ (i < standing R h j .latest)
-  apart i j l e = later i j l e .latest
+      (i j from to : ℕ) → i ≤ j → given (standing R h i .selected) ≡ true
+      → standing R h i .context ≡ some from → standing R h j .context ≡ some to → (from ≡ to) ⊎ (i < to)
+  apart i j from to l e a b =
+      let f = context-latest i from a in
+      let g = context-latest j to b in
+      ⊎-elim
+      (λ (q : standing R h i .latest ≡ standing R h j .latest). inl (sym f ∙ q ∙ g))
+      (λ (q : i < standing R h j .latest). inr (omega (arith, g)))
+      (later i j l e .latest)

@@ -3,21 +3,20 @@ use Prim.Native.Nat.{ℕ, _≤_}
 use native.Mathlib.Omega.{arith}
 use borrow.Author.Tests.{ltb-false}
 use mathlib.Core.Path.{_≡_, refl, sym, ap, _∙_}
-use mathlib.Core.Bool.{Bool, true, false, not, _&&_}
+use mathlib.Core.Bool.{Bool, true, false, _&&_}
 use mathlib.Core.Option.{Option, none, some}
-use mathlib.Core.List.{List}
 use lib.Dec.{eqb, ltb}
 use lib.ListN.{length}
-use Rattle.model.specs.Limits.{mapLength}
-use Rattle.model.specs.Numbers.{matchOrder}
 use Rattle.model.specs.Tables.{Table}
-use Rattle.model.specs.Records.{isBadRecord, recordRead}
+use Rattle.model.specs.Records.{recordRead}
+use Rattle.model.specs.Setting.{Setting}
 use Rattle.model.specs.Selection.{Reading}
 use Rattle.model.specs.Matching.{readingOf}
-use Rattle.model.specs.Demand.{MatchCall}
+use Rattle.model.specs.Demand.{MatchCall, callChecks}
 use Rattle.model.specs.declared.events.Event.{Event}
 use Rattle.model.specs.declared.answers.RecordRead.{RecordRead}
 use Rattle.machine.specs.Kept.{Kept, fresh, contextLimit, Bounded, grown, moved, choice, marked, kept, passesContext, stepNumber, act, stepped}
+use Rattle.machine.proofs.Checks.{none-applies}
 use Rattle.machine.proofs.Track.{length-snoc}
 
 module _ {E : Type 0} (R : Reading E) where
@@ -42,40 +41,26 @@ module _ {E : Type 0} (R : Reading E) where
   kept-bounded k x b l =
       marked-bounded (moved R k x) (record { few = l; within = moved-within k x (b .within) }) (choice R k x)
 
-full-number : (short bad : Bool) → eqb (matchOrder short false false bad true) 0 ≡ false
-full-number true bad = refl
-full-number false true = refl
-full-number false false = refl
-
-module _ (t : Table) (map : List ℕ) (limit : ℕ) (k : Kept Event) (b : Bounded k) where
-  not-full : (c : MatchCall) → eqb (stepNumber t map limit k c) 0 ≡ true → passesContext t map limit k (recordRead (c .bytes) (c .order)) ≡ false
+module _ (t : Table) (setting : Setting) (k : Kept Event) (b : Bounded k) where
+  not-full : (c : MatchCall) → eqb (stepNumber t setting k c) 0 ≡ true → passesContext t setting k (recordRead (c .bytes) (c .order)) ≡ false
   unfolding stepNumber
-  not-full c q = go (passesContext t map limit k (recordRead (c .bytes) (c .order))) refl
-    where
-      go : (f : Bool) → passesContext t map limit k (recordRead (c .bytes) (c .order)) ≡ f → f ≡ false
-      go true p =
-          let n : eqb (stepNumber t map limit k c) 0 ≡ false
-          = ap
-          (λ full. eqb (matchOrder (not (eqb (length map) mapLength)) false false (isBadRecord (c .bytes) (c .order)) full) 0) p
-          ∙ full-number (not (eqb (length map) mapLength)) (isBadRecord (c .bytes) (c .order)) in
-          cc
-      go false p = refl
+  not-full c q = none-applies (callChecks setting c (passesContext t setting k (recordRead (c .bytes) (c .order)))) q .full
 
-  act-bounded : (r : RecordRead) → passesContext t map limit k r ≡ false → Bounded (act t map limit k r .next)
+  act-bounded : (r : RecordRead) → passesContext t setting k r ≡ false → Bounded (act t setting k r .next)
   act-bounded (RecordRead.Refused n) f = b
-  act-bounded (RecordRead.Event x) f = go (readingOf t map limit .known x) refl
+  act-bounded (RecordRead.Event x) f = go (readingOf t setting .known x) refl
     where
-      go : (a : Bool) → readingOf t map limit .known x ≡ a → Bounded (act t map limit k (RecordRead.Event x) .next)
+      go : (a : Bool) → readingOf t setting .known x ≡ a → Bounded (act t setting k (RecordRead.Event x) .next)
       go true q =
-          let l : ltb contextLimit (length (moved (readingOf t map limit) k x .events)) ≡ false
-          = ap (λ a. a && ltb contextLimit (length (moved (readingOf t map limit) k x .events))) (sym q) ∙ f in
-          rw q (kept-bounded (readingOf t map limit) k x b (ltb-false contextLimit (length (moved (readingOf t map limit) k x .events)) l))
+          let l : ltb contextLimit (length (moved (readingOf t setting) k x .events)) ≡ false
+          = ap (λ a. a && ltb contextLimit (length (moved (readingOf t setting) k x .events))) (sym q) ∙ f in
+          rw q (kept-bounded (readingOf t setting) k x b (ltb-false contextLimit (length (moved (readingOf t setting) k x .events)) l))
       go false q = rw q b
 
-  pub stepped-bounded : (c : MatchCall) → Bounded (stepped t map limit k c .next)
+  pub stepped-bounded : (c : MatchCall) → Bounded (stepped t setting k c .next)
   unfolding stepped
-  stepped-bounded c = go (eqb (stepNumber t map limit k c) 0) refl
+  stepped-bounded c = go (eqb (stepNumber t setting k c) 0) refl
     where
-      go : (a : Bool) → eqb (stepNumber t map limit k c) 0 ≡ a → Bounded (stepped t map limit k c .next)
+      go : (a : Bool) → eqb (stepNumber t setting k c) 0 ≡ a → Bounded (stepped t setting k c .next)
       go true q = rw q (act-bounded (recordRead (c .bytes) (c .order)) (not-full c q))
       go false q = rw q b

@@ -1,56 +1,55 @@
--- Demand 3, of the bounded matcher on every accepted table.
+-- Demand 3, of the bounded matcher on every table that passes no limit.
 use Prim.Native.Nat.{ℕ}
 use mathlib.Core.Path.{_≡_, refl}
 use mathlib.Core.Bool.{Bool, true, false}
 use mathlib.Core.Option.{Option, none, some}
-use mathlib.Core.List.{List}
 use lib.Dec.{eqb}
 use Rattle.model.specs.Numbers.{matchedNumber, matchedSelection}
 use Rattle.model.specs.Tables.{Table}
 use Rattle.model.specs.Records.{recordRead}
+use Rattle.model.specs.Setting.{Setting}
 use Rattle.model.specs.Matching.{readingOf}
 use Rattle.model.specs.Demand.{MatchCall, selection, history, stateAfter, Demand3For}
 use Rattle.model.specs.declared.events.Event.{Event}
 use Rattle.model.specs.declared.answers.RecordRead.{RecordRead}
 use Rattle.machine.specs.Kept.{Kept, fresh, Step, choice, stepNumber, act, stepped, keptMatcher}
-use Rattle.machine.proofs.Limits.{accepted-within}
 use Rattle.machine.proofs.Selects.{selects}
 use Rattle.machine.proofs.Apart.{apart}
 use Rattle.machine.proofs.Blind.{blind}
 
 -- ---- "a refused call selects none and changes nothing"
 
-module _ (t : Table) (map : List ℕ) (limit : ℕ) (k : Kept Event) where
+module _ (t : Table) (setting : Setting) (k : Kept Event) where
   abbrev Refuses : Step → Type 0
   Refuses s = (matchedNumber (s .answer) ≡ 0 → ⊥) → (matchedSelection (s .answer) ≡ none) × (s .next ≡ k)
 
-  selection-number : (o : Option ℕ) → matchedNumber (selection t map limit o) ≡ 0
+  selection-number : (o : Option ℕ) → matchedNumber (selection t setting o) ≡ 0
   selection-number none = refl
   selection-number (some p) = refl
 
-  act-refuses : (r : RecordRead) → Refuses (act t map limit k r)
+  act-refuses : (r : RecordRead) → Refuses (act t setting k r)
   act-refuses (RecordRead.Refused n) = λ f. (refl, refl)
-  act-refuses (RecordRead.Event x) = go (readingOf t map limit .known x) refl
+  act-refuses (RecordRead.Event x) = go (readingOf t setting .known x) refl
     where
-      go : (b : Bool) → readingOf t map limit .known x ≡ b → Refuses (act t map limit k (RecordRead.Event x))
-      go true q = rw q (λ f. absurd (f (selection-number (choice (readingOf t map limit) k x))))
+      go : (b : Bool) → readingOf t setting .known x ≡ b → Refuses (act t setting k (RecordRead.Event x))
+      go true q = rw q (λ f. absurd (f (selection-number (choice (readingOf t setting) k x))))
       go false q = rw q (λ f. absurd (f refl))
 
-  pub step-refuses : (c : MatchCall) → Refuses (stepped t map limit k c)
+  pub step-refuses : (c : MatchCall) → Refuses (stepped t setting k c)
   unfolding stepped
-  step-refuses c = go (eqb (stepNumber t map limit k c) 0) refl
+  step-refuses c = go (eqb (stepNumber t setting k c) 0) refl
     where
-      go : (b : Bool) → eqb (stepNumber t map limit k c) 0 ≡ b → Refuses (stepped t map limit k c)
+      go : (b : Bool) → eqb (stepNumber t setting k c) 0 ≡ b → Refuses (stepped t setting k c)
       go true q = rw q (act-refuses (recordRead (c .bytes) (c .order)))
       go false q = rw q (λ f. (refl, refl))
 
 -- ---- The claim
 
 pub demand3 : Demand3For keptMatcher
-demand3 t a map limit cs =
+demand3 t w setting cs =
     record {
-      selects = selects t map limit (accepted-within a) cs;
-      refuses = λ before rest c e f. step-refuses t map limit (stateAfter (keptMatcher t map limit) fresh before) c f;
-      apart = λ i j l m p q. apart (readingOf t map limit) (history t map limit cs) i j l p;
-      blind = λ ds l. blind t map limit cs ds l;
+      selects = selects t setting w cs;
+      refuses = λ before rest c e f. step-refuses t setting (stateAfter (keptMatcher t setting) fresh before) c f;
+      apart = λ i j from to l m p a q b. apart (readingOf t setting) (history t setting cs) i j from to l p a b;
+      blind = λ ds l. blind t setting cs ds l;
     }

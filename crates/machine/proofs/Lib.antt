@@ -1,3 +1,4 @@
+pub mod Checks
 pub mod Track
 pub mod Apart
 pub mod Tests

@@ -10,7 +10,9 @@ use lib.ListN.{length}
 use Rattle.model.specs.Lists.{any}
 use Rattle.model.specs.Bytes.{inRange}
 use Rattle.model.specs.Names.{shiftBit, lockBit, firstButtonBit, lastButtonBit}
-use Rattle.model.specs.Modifiers.{bit, bits, isShiftOrLock, asAsked, bitsMet, clauseMet, stateMeets, caresFor}
+use Rattle.model.specs.Modifiers.{bit, bits, isShiftOrLock, asAsked, bitsMet, clauseMet, stateMeets}
+use Rattle.model.specs.Setting.{Setting}
+use Rattle.model.specs.Asked.{Test, asked, testMet, caresFor}
 use Rattle.model.specs.Keyboard.{firstKeysym, secondKeysym, keysymOf, matchesWithColon, settings, matchesWithout, pairMatches, keyMatches}
 use Rattle.model.specs.Tables.{Production, Table}
 use Rattle.model.specs.Counts.{Element, element, isRelease, releasePress, pressRelease, countedPress, countedRelease, elementsAt, elementsOf, expanded, sequence, quick}
@@ -29,24 +31,28 @@ as-asked-same false true b c f = rw (f refl)
 as-asked-same false false b c f = refl
 
 -- two states that agree in the bits that the event tests
-module _ (e : KeptEvent) (s r : ℕ) (agree : (k : ℕ) → eventTests e k ≡ true → bit k s ≡ bit k r) where
-  by-care : (k : ℕ) → caresFor e k ≡ true → bit k s ≡ bit k r
+module _ (setting : Setting) (e : KeptEvent) (s r : ℕ)
+    (agree : (k : ℕ) → eventTests setting e k ≡ true → bit k s ≡ bit k r) where
+  abbrev test : Test
+  test = asked setting e
+
+  by-care : (k : ℕ) → caresFor test k ≡ true → bit k s ≡ bit k r
   unfolding eventTests
   by-care k h = agree k (or-left _ _ (or-left _ _ h))
 
-  by-clause : e .clause ≡ true → (k : ℕ) → inRange firstButtonBit k lastButtonBit ≡ true → bit k s ≡ bit k r
+  by-clause : test .clause ≡ true → (k : ℕ) → inRange firstButtonBit k lastButtonBit ≡ true → bit k s ≡ bit k r
   unfolding eventTests
-  by-clause c k h = agree k (or-left _ _ (or-right (caresFor e k) _ (ap₂ _&&_ c h)))
+  by-clause c k h = agree k (or-left _ _ (or-right (caresFor test k) _ (ap₂ _&&_ c h)))
 
   by-colon : e .colon ≡ true → asksDetail (e .detail) ≡ true → (k : ℕ) → isShiftOrLock k ≡ true → bit k s ≡ bit k r
   unfolding eventTests
-  by-colon c d k h = agree k (or-right (caresFor e k || testsByClause e k) _ (ap₂ _&&_ (ap₂ _&&_ c d) h))
+  by-colon c d k h = agree k (or-right (caresFor test k || testsByClause test k) _ (ap₂ _&&_ (ap₂ _&&_ c d) h))
 
-  bits-same : bitsMet (e .set) (e .clear) s ≡ bitsMet (e .set) (e .clear) r
+  bits-same : bitsMet (test .set) (test .clear) s ≡ bitsMet (test .set) (test .clear) r
   bits-same =
-      all-same _ _ (λ k. as-asked-same (bit k (e .set)) (bit k (e .clear)) (bit k s) (bit k r) (by-care k)) bits
+      all-same _ _ (λ k. as-asked-same (bit k (test .set)) (bit k (test .clear)) (bit k s) (bit k r) (by-care k)) bits
 
-  clause-same : (c : Bool) → e .clause ≡ c → clauseMet c s ≡ clauseMet c r
+  clause-same : (c : Bool) → test .clause ≡ c → clauseMet c s ≡ clauseMet c r
   clause-same false q = refl
   clause-same true q =
       ap₂ _||_ (by-clause q 8 refl)
@@ -55,45 +61,47 @@ module _ (e : KeptEvent) (s r : ℕ) (agree : (k : ℕ) → eventTests e k ≡ t
       (ap₂ _||_ (by-clause q 11 refl)
       (ap₂ _||_ (by-clause q 12 refl) refl))))
 
-  state-same : stateMeets (e .set) (e .clear) (e .clause) s ≡ stateMeets (e .set) (e .clear) (e .clause) r
-  unfolding stateMeets
-  state-same = ap₂ _&&_ bits-same (clause-same (e .clause) refl)
+  state-same : testMet test s ≡ testMet test r
+  unfolding testMet stateMeets
+  state-same = ap (λ met. not (test .dead) && met) (ap₂ _&&_ bits-same (clause-same (test .clause) refl))
 
-  settings-same : (k : ℕ) → (b : Bool) → caresFor e k ≡ b → settings b (bit k s) ≡ settings b (bit k r)
+  settings-same : (k : ℕ) → (b : Bool) → caresFor test k ≡ b → settings b (bit k s) ≡ settings b (bit k r)
   settings-same k true q = ap (λ (b : Bool). b ∷ []) (by-care k q)
   settings-same k false q = refl
 
   pair-same :
       (a b d : ℕ) → asksDetail (e .detail) ≡ true → (c : Bool) → e .colon ≡ c
-      → cond c (matchesWithColon a b s d) (matchesWithout a b s (caresFor e shiftBit) (caresFor e lockBit) d)
-      ≡ cond c (matchesWithColon a b r d) (matchesWithout a b r (caresFor e shiftBit) (caresFor e lockBit) d)
-  unfolding matchesWithColon matchesWithout
+      → pairMatches test c a b s d ≡ pairMatches test c a b r d
+  unfolding pairMatches matchesWithColon matchesWithout
   pair-same a b d h true q =
       ap₂ (λ shift lock. eqb (keysymOf a b shift lock) d) (by-colon q h shiftBit refl) (by-colon q h lockBit refl)
   pair-same a b d h false q =
       ap₂ (λ shifts locks. any (λ shift. any (λ lock. eqb (keysymOf a b shift lock) d) locks) shifts)
-      (settings-same shiftBit (caresFor e shiftBit) refl) (settings-same lockBit (caresFor e lockBit) refl)
+      (settings-same shiftBit (caresFor test shiftBit) refl) (settings-same lockBit (caresFor test lockBit) refl)
 
-  key-same : (map : List ℕ) (keycode d : ℕ) → asksDetail (e .detail) ≡ true → keyMatches map e keycode s d ≡ keyMatches map e keycode r d
-  unfolding keyMatches pairMatches
-  key-same map keycode d h = pair-same (firstKeysym map keycode) (secondKeysym map keycode) d h (e .colon) refl
+  key-same :
+      (keycode d : ℕ) → asksDetail (e .detail) ≡ true → keyMatches setting e keycode s d ≡ keyMatches setting e keycode r d
+  unfolding keyMatches
+  key-same keycode d h =
+      pair-same (firstKeysym (setting .keyboard) keycode) (secondKeysym (setting .keyboard) keycode) d h (e .colon) refl
 
 -- two events that agree in all that the kept event asks
-module _ (map : List ℕ) (e : KeptEvent) (x y : Event) (code : x .code ≡ y .code) (detail : x .detail ≡ y .detail)
-    (agree : (k : ℕ) → eventTests e k ≡ true → bit k (x .state) ≡ bit k (y .state)) where
-  detail-same : (d : Detail) → e .detail ≡ d → detailMet map e d x ≡ detailMet map e d y
+module _ (setting : Setting) (e : KeptEvent) (x y : Event) (code : x .code ≡ y .code) (detail : x .detail ≡ y .detail)
+    (agree : (k : ℕ) → eventTests setting e k ≡ true → bit k (x .state) ≡ bit k (y .state)) where
+  detail-same : (d : Detail) → e .detail ≡ d → detailMet setting e d x ≡ detailMet setting e d y
   detail-same Detail.Unspecified q = refl
   detail-same (Detail.Value d) q =
-      rw (code, detail, key-same e (x .state) (y .state) agree map (y .detail) d (ap asksDetail q))
+      rw (code, detail, key-same setting e (x .state) (y .state) agree (y .detail) d (ap asksDetail q))
 
 meets-same :
-    (map : List ℕ) (el : Element) (x y : Event) → x .code ≡ y .code → x .detail ≡ y .detail
-    → ((k : ℕ) → eventTests (el .event) k ≡ true → bit k (x .state) ≡ bit k (y .state)) → meets map el x ≡ meets map el y
+    (setting : Setting) (el : Element) (x y : Event) → x .code ≡ y .code → x .detail ≡ y .detail
+    → ((k : ℕ) → eventTests setting (el .event) k ≡ true → bit k (x .state) ≡ bit k (y .state))
+    → meets setting el x ≡ meets setting el y
 unfolding meets
-meets-same map el x y c d a =
+meets-same setting el x y c d a =
     ap₂ _&&_
-    (ap₂ _&&_ (ap (eqb (el .code)) c) (state-same (el .event) (x .state) (y .state) a))
-    (detail-same map (el .event) x y c d a (el .event .detail) refl)
+    (ap₂ _&&_ (ap (eqb (el .code)) c) (state-same setting (el .event) (x .state) (y .state) a))
+    (detail-same setting (el .event) x y c d a (el .event .detail) refl)
 
 -- ---- Expansion: an element carries the test of an event of its production
 
@@ -155,20 +163,20 @@ module _ {E : Type 0} where
   each-length Each.empty = refl
   each-length (Each.more l r) = ap suc (each-length r)
 
-module _ (t : Table) (map : List ℕ) (limit : ℕ) where
+module _ (t : Table) (setting : Setting) where
   -- an event before is there in both stretches or in neither
   data Both : Option Event → Option Event → Type 0 where
     neither : Both none none
-    both : {x y : Event} → Like t x y → Both (some x) (some y)
+    both : {x y : Event} → Like (tests setting t) x y → Both (some x) (some y)
 
-  in-time-same : {a b : Option Event} {x y : Event} → Both a b → Like t x y → inTime limit a x ≡ inTime limit b y
+  in-time-same : {a b : Option Event} {x y : Event} → Both a b → Like (tests setting t) x y → inTime setting a x ≡ inTime setting b y
   in-time-same neither l = refl
-  in-time-same (both m) l = ap₂ (quick limit) (m .time) (l .time)
+  in-time-same (both m) l = ap₂ (quick (setting .time)) (m .time) (l .time)
 
   follows-same :
-      (els : List Element) → ((el : Element) → List·Memᴰ el els → (x y : Event) → Like t x y → meets map el x ≡ meets map el y)
-      → {a b c d : Option Event} → Both a b → Both c d → {xs ys : List Event} → Each (Like t) xs ys
-      → follows map limit a c els xs ≡ follows map limit b d els ys
+      (els : List Element) → ((el : Element) → List·Memᴰ el els → (x y : Event) → Like (tests setting t) x y → meets setting el x ≡ meets setting el y)
+      → {a b c d : Option Event} → Both a b → Both c d → {xs ys : List Event} → Each (Like (tests setting t)) xs ys
+      → follows setting a c els xs ≡ follows setting b d els ys
   unfolding follows
   follows-same els s m n Each.empty = refl
   follows-same [] s m n (Each.more l r) = refl
@@ -178,34 +186,34 @@ module _ (t : Table) (map : List ℕ) (limit : ℕ) where
       (follows-same els (λ f i. s f (List·Memᴰ·tail i)) n (both l) r)
 
   in-table :
-      (p : Production) → List·Memᴰ p (t .productions) → (el : Element) → List·Memᴰ el (sequence p) → (x y : Event) → Like t x y
-      → meets map el x ≡ meets map el y
+      (p : Production) → List·Memᴰ p (t .productions) → (el : Element) → List·Memᴰ el (sequence p) → (x y : Event) → Like (tests setting t) x y
+      → meets setting el x ≡ meets setting el y
   unfolding sequence tests
   in-table p i el j x y l =
-      meets-same map el x y (l .code) (l .detail)
+      meets-same setting el x y (l .code) (l .detail)
       (λ k h.
       l .state k
-      (any-in (λ q. any (λ e. eventTests e k) (q .events)) i (any-in (λ e. eventTests e k) (expanded-event (p .events) j) h)))
+      (any-in (λ q. any (λ e. eventTests setting e k) (q .events)) i (any-in (λ e. eventTests setting e k) (expanded-event (p .events) j) h)))
 
   reads-same :
-      (p : Production) → List·Memᴰ p (t .productions) → {xs ys : List Event} → Each (Like t) xs ys
-      → readsAsPrefix map limit xs p ≡ readsAsPrefix map limit ys p
+      (p : Production) → List·Memᴰ p (t .productions) → {xs ys : List Event} → Each (Like (tests setting t)) xs ys
+      → readsAsPrefix setting xs p ≡ readsAsPrefix setting ys p
   unfolding readsAsPrefix
   reads-same p i r = follows-same (sequence p) (in-table p i) neither neither r
 
   whole-same :
-      (p : Production) → List·Memᴰ p (t .productions) → {xs ys : List Event} → Each (Like t) xs ys
-      → isWholeSequence map limit xs p ≡ isWholeSequence map limit ys p
+      (p : Production) → List·Memᴰ p (t .productions) → {xs ys : List Event} → Each (Like (tests setting t)) xs ys
+      → isWholeSequence setting xs p ≡ isWholeSequence setting ys p
   unfolding isWholeSequence
   whole-same p i r = ap₂ _&&_ (ap (λ n. eqb n (length (sequence p))) (each-length r)) (reads-same p i r)
 
-  pub known-same : {x y : Event} → Like t x y → readingOf t map limit .known x ≡ readingOf t map limit .known y
+  pub known-same : {x y : Event} → Like (tests setting t) x y → readingOf t setting .known x ≡ readingOf t setting .known y
   known-same l = ap (λ c. any (hasType c) (t .productions)) (l .code)
 
   pub prefix-same :
-      {xs ys : List Event} → Each (Like t) xs ys → readingOf t map limit .prefix xs ≡ readingOf t map limit .prefix ys
+      {xs ys : List Event} → Each (Like (tests setting t)) xs ys → readingOf t setting .prefix xs ≡ readingOf t setting .prefix ys
   prefix-same r = any-same _ _ (t .productions) (λ p i. reads-same p i r)
 
   pub chosen-same :
-      {xs ys : List Event} → Each (Like t) xs ys → readingOf t map limit .chosen xs ≡ readingOf t map limit .chosen ys
+      {xs ys : List Event} → Each (Like (tests setting t)) xs ys → readingOf t setting .chosen xs ≡ readingOf t setting .chosen ys
   chosen-same r = earliest-same _ _ 0 (t .productions) (λ p i. whole-same p i r)

@@ -1,18 +1,31 @@
 -- A bounded matcher: of the history it keeps the events of the open context alone, and how many of them are used up.
 -- proofs/Demand shows that it meets demand 3, which speaks of the whole history.
+--
+-- The example of model's Selection, table P of document 01, `<Btn1Down>,<Btn1Up>:toves()` and `<Btn1Up>:did()`:
+--
+--     event         kept events   used up   selected
+--     fresh         none          0
+--     1 press 1     1             0         none
+--     2 release 2   none          0         none: neither 1 2 nor its longest end 2 reads as a prefix
+--     3 release 1   3             1         did()
+--     4 press 1     4             0         none: 3 4 reads as no prefix, its end 4 does
+--     5 release 1   4 5           2         toves()
+--     6 release 1   6             1         did(): 4 5 6 reads as no prefix, and 4 and 5 are used up
+--
+-- The kept events are the stretch from the start of the open context; those used up lie at or before the last selection.
 use Prim.Native.Nat.{ℕ, max, _≤_}
-use mathlib.Core.Bool.{Bool, false, cond, not, _&&_}
+use mathlib.Core.Bool.{Bool, false, cond, _&&_}
 use mathlib.Core.List.{List, [], _∷_, _++_}
 use mathlib.Core.Option.{Option, none, some}
 use lib.Dec.{eqb, ltb}
 use lib.ListN.{length, drop}
-use Rattle.model.specs.Limits.{mapLength}
 use Rattle.model.specs.Numbers.{matchOrder}
 use Rattle.model.specs.Tables.{Table}
-use Rattle.model.specs.Records.{isBadRecord, recordRead}
+use Rattle.model.specs.Records.{recordRead}
+use Rattle.model.specs.Setting.{Setting}
 use Rattle.model.specs.Selection.{Reading}
 use Rattle.model.specs.Matching.{readingOf}
-use Rattle.model.specs.Demand.{MatchCall, Matcher, selection}
+use Rattle.model.specs.Demand.{MatchCall, Matcher, callChecks, selection}
 use Rattle.model.specs.declared.events.Event.{Event}
 use Rattle.model.specs.declared.answers.RecordRead.{RecordRead}
 use Rattle.model.specs.declared.answers.Matched.{Matched}
@@ -93,18 +106,17 @@ pub record Step : Type 0 where
   pub answer : Matched
   pub next : Kept Event
 
-module _ (t : Table) (map : List ℕ) (limit : ℕ) where
+module _ (t : Table) (setting : Setting) where
   -- number 15, judged on the context as it would be after rule 3; a dropped event leaves it as it is
   abbrev pub passesContext : Kept Event → RecordRead → Bool
   passesContext k (RecordRead.Event x) =
-      readingOf t map limit .known x && ltb contextLimit (length (moved (readingOf t map limit) k x .events))
+      readingOf t setting .known x && ltb contextLimit (length (moved (readingOf t setting) k x .events))
   passesContext k (RecordRead.Refused n) = false
 
   -- the number that refuses a call, 0 where none does: "Matcher: 1, 12, 14, 13, 15.", of which 12 and 14 are about bytes
   unfoldable pub stepNumber : Kept Event → MatchCall → ℕ
   stepNumber k c =
-      matchOrder (not (eqb (length map) mapLength)) false false (isBadRecord (c .bytes) (c .order))
-      (passesContext k (recordRead (c .bytes) (c .order)))
+      matchOrder (callChecks setting c (passesContext k (recordRead (c .bytes) (c .order))))
 
   -- "A refused matcher call keeps the state and selects none."
   abbrev pub refuse : ℕ → Kept Event → Step
@@ -116,11 +128,11 @@ module _ (t : Table) (map : List ℕ) (limit : ℕ) where
 
   abbrev pub hear : Kept Event → Event → Step
   hear k x =
-      record { answer = selection t map limit (choice (readingOf t map limit) k x); next = kept (readingOf t map limit) k x }
+      record { answer = selection t setting (choice (readingOf t setting) k x); next = kept (readingOf t setting) k x }
 
   -- "the matcher acts on the first and hands the second on"
   abbrev pub act : Kept Event → RecordRead → Step
-  act k (RecordRead.Event x) = cond (readingOf t map limit .known x) (hear k x) (dropEvent k)
+  act k (RecordRead.Event x) = cond (readingOf t setting .known x) (hear k x) (dropEvent k)
   act k (RecordRead.Refused n) = refuse n k
 
   unfoldable pub stepped : Kept Event → MatchCall → Step
@@ -128,6 +140,6 @@ module _ (t : Table) (map : List ℕ) (limit : ℕ) where
       cond (eqb (stepNumber k c) 0) (act k (recordRead (c .bytes) (c .order))) (refuse (stepNumber k c) k)
 
 -- the matcher that demand 3 is shown of
-abbrev pub keptMatcher : Table → List ℕ → ℕ → Matcher (Kept Event)
-keptMatcher t map limit =
-    record { fresh = fresh; answer = λ k c. stepped t map limit k c .answer; next = λ k c. stepped t map limit k c .next }
+abbrev pub keptMatcher : Table → Setting → Matcher (Kept Event)
+keptMatcher t setting =
+    record { fresh = fresh; answer = λ k c. stepped t setting k c .answer; next = λ k c. stepped t setting k c .next }

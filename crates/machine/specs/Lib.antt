@@ -1,2 +1,3 @@
 pub mod Kept
+pub mod Never
 pub mod Viewed

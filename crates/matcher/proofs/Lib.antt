@@ -1,11 +1,3 @@
-pub mod SlotLaws
-pub mod StateLaws
-pub mod TableFacts
-pub mod EventLaws
-pub mod FollowLaws
-pub mod PassLaws
-pub mod FilterLaws
-pub mod TypeLaws
 pub mod MoveLaws
 pub mod MatchLaws
 pub mod NextLaws

@@ -20,12 +20,12 @@ use Rattle.machine.proofs.Limits.{never-full}
 use Rattle.tables.specs.Layout.{tableLength}
 use Rattle.tables.specs.Reading.{decode}
 use Rattle.tables.specs.Whole.{whole}
-use Rattle.matcher.specs.declared.state.State.{State}
+use Rattle.states.specs.declared.State.{State}
 use Rattle.matcher.specs.declared.Answer.{Answer}
-use Rattle.matcher.specs.State.{keptOf, wholeState}
+use Rattle.states.specs.State.{keptOf, wholeState}
 use Rattle.matcher.specs.Match.{stepAnswer, refusedWith, tooShort, matchNumber, callAnswer}
-use Rattle.matcher.proofs.StateLaws.{state-facts, state-kept}
-use Rattle.matcher.proofs.TableFacts.{table-facts}
+use Rattle.states.proofs.StateLaws.{state-facts, state-kept}
+use Rattle.fields.proofs.TableFacts.{table-facts}
 
 -- ---- The order of the checks
 

@@ -17,16 +17,17 @@ use Rattle.model.specs.Demand.{selection}
 use Rattle.model.specs.declared.events.Event.{Event}
 use Rattle.machine.specs.Kept.{Kept, longestEnd, grown, moved, chosenIn, choice, marked, kept, hear}
 use Rattle.tables.specs.Whole.{whole}
-use Rattle.matcher.specs.declared.state.State.{State}
+use Rattle.states.specs.declared.State.{State}
 use Rattle.matcher.specs.declared.Answer.{Answer}
-use Rattle.matcher.specs.declared.walk.Passed.{Passed}
-use Rattle.matcher.specs.State.{zeroEvent, slotsOf, putSlot, eventsBytes, inSlots, keptOf, stateWith, stateKeeping}
-use Rattle.matcher.specs.Walk.{WalkReady, passed, passedIn}
+use Rattle.walk.specs.declared.Passed.{Passed}
+use Rattle.states.specs.State.{zeroEvent, slotsOf, putSlot, eventsBytes, inSlots, keptOf, stateWith, stateKeeping}
+use Rattle.follow.specs.Follow.{WalkReady}
+use Rattle.walk.specs.Walk.{passed, passedIn}
 use Rattle.matcher.specs.Moves.{answerWith, answerIn, restarted}
 use Rattle.matcher.specs.Match.{stepAnswer}
-use Rattle.matcher.proofs.SlotLaws.{length-in, take-slots, put-more}
-use Rattle.matcher.proofs.StateLaws.{StateFacts, InRanges, ranges-more, slots-kept, length-kept, kept-ranges}
-use Rattle.matcher.proofs.PassLaws.{someReads, chosenBy, passed-prefix, passed-chosen, passed-in}
+use Rattle.states.proofs.SlotLaws.{length-in, take-slots, put-more}
+use Rattle.states.proofs.StateLaws.{StateFacts, InRanges, ranges-more, slots-kept, length-kept, kept-ranges}
+use Rattle.walk.proofs.PassLaws.{someReads, chosenBy, passed-prefix, passed-chosen, passed-in}
 
 -- ---- Slots
 

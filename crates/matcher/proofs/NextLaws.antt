@@ -23,10 +23,10 @@ use Rattle.machine.specs.Kept.{Kept, longestEnd, grown, usedUp, unused, moved, 
 use Rattle.machine.proofs.Bounded.{stepped-bounded}
 use Rattle.tables.specs.Reading.{decode}
 use Rattle.tables.specs.Whole.{whole}
-use Rattle.matcher.specs.declared.state.State.{State}
-use Rattle.matcher.specs.State.{zeroEvent, keptOf, stateKeeping, wholeState}
+use Rattle.states.specs.declared.State.{State}
+use Rattle.states.specs.State.{zeroEvent, keptOf, stateKeeping, wholeState}
 use Rattle.matcher.specs.Match.{stepAnswer, tooShort, matchNumber, callAnswer}
-use Rattle.matcher.proofs.StateLaws.{InRanges, ranges-tail, ranges-more, state-facts, kept-ranges, kept-bounded, bounded-whole}
+use Rattle.states.proofs.StateLaws.{InRanges, ranges-tail, ranges-more, state-facts, kept-ranges, kept-bounded, bounded-whole}
 
 -- ---- Events in range
 

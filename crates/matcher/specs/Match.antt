@@ -13,9 +13,9 @@ use Rattle.machine.specs.Kept.{Step, passesContext, stepped}
 use Rattle.tables.specs.Layout.{tableLength}
 use Rattle.tables.specs.Reading.{decode}
 use Rattle.tables.specs.Whole.{whole}
-use Rattle.matcher.specs.declared.state.State.{State}
+use Rattle.states.specs.declared.State.{State}
 use Rattle.matcher.specs.declared.Answer.{Answer}
-use Rattle.matcher.specs.State.{keptOf, stateKeeping, wholeState}
+use Rattle.states.specs.State.{keptOf, stateKeeping, wholeState}
 
 -- the answer with the state that stands for what is kept
 unfoldable pub stepAnswer : Step → Answer

@@ -10,9 +10,9 @@ use Rattle.model.specs.declared.events.Event.{Event}
 use Rattle.model.specs.declared.answers.Matched.{Matched}
 use Rattle.machine.specs.Kept.{longestEnd}
 use Rattle.matcher.specs.declared.Answer.{Answer}
-use Rattle.matcher.specs.declared.walk.Passed.{Passed}
-use Rattle.matcher.specs.State.{inSlots}
-use Rattle.matcher.specs.Walk.{passedIn}
+use Rattle.walk.specs.declared.Passed.{Passed}
+use Rattle.states.specs.State.{inSlots}
+use Rattle.walk.specs.Walk.{passedIn}
 
 abbrev pub matchedBy : Passed → Matched
 matchedBy Passed.No = Matched.Heard

@@ -4,20 +4,14 @@ ghost use mathlib.Core.Bool.{false, not};
 ghost use Rattle.model.specs.Numbers.{matchOrder, recordNumber};
 ghost use Rattle.tables.specs.Whole.{whole};
 ghost use Rattle.keyboard.specs.Maps.{mapNumbers};
-ghost use Rattle.matcher.specs.State.{wholeState};
+ghost use Rattle.states.specs.State.{wholeState};
 ghost use Rattle.matcher.specs.Match.{tooShort, refusedWith, matchAnswer};
 
-mod filter;
 mod moves;
-mod reader;
-mod slots;
-pub mod state;
-mod types;
-mod walk;
 
-use crate::state::State;
 use model::answers::Matched;
 use model::answers::RecordRead;
+use states::State;
 
 // What a call answers, and the state for the next call.
 pub struct Answer {
@@ -48,7 +42,7 @@ fn refusal(table: &[u8], map: &[u8], state: State) -> u8
     if !table_check::whole(table) {
         return TABLE_NOT_WHOLE;
     }
-    if !state::state_whole(state) {
+    if !states::state_whole(state) {
         return STATE_NOT_WHOLE;
     }
     0

@@ -7,18 +7,17 @@ ghost use Rattle.records.specs.Ranges.{EventRanges};
 ghost use Rattle.machine.specs.Kept.{hear};
 ghost use Rattle.tables.specs.Reading.{decode};
 ghost use Rattle.tables.specs.Whole.{whole};
-ghost use Rattle.matcher.specs.State.{slotsOf, inSlots, wholeState, keptOf};
+ghost use Rattle.states.specs.State.{slotsOf, inSlots, wholeState, keptOf};
 ghost use Rattle.keyboard.specs.Maps.{mapNumbers};
-ghost use Rattle.matcher.specs.Walk.{WalkReady};
+ghost use Rattle.follow.specs.Follow.{WalkReady};
 ghost use Rattle.matcher.specs.Moves.{answerWith, restarted};
 ghost use Rattle.matcher.specs.Match.{stepAnswer};
 use crate::Answer;
-use crate::slots;
-use crate::state::State;
-use crate::walk;
-use crate::walk::Passed;
 use model::answers::Matched;
 use model::events::Event;
+use states::State;
+use states::slots;
+use walk::Passed;
 
 // Events from..to, moved to the first slots; the others are zero.
 fn shifted(events: &[u8], from: usize, to: usize) -> [u8; 200]

@@ -7,7 +7,7 @@ use Rattle.model.specs.Lists.{bytes, all, those}
 use Rattle.model.specs.Codes.{isKey, isButton, motionNotify, hasMode, takesModifiers}
 use Rattle.model.specs.Names.{Entry, nameOf, modifierEntries, protocolEntries}
 use Rattle.model.specs.Details.{buttonEntries, motionEntries, modeEntries, requestEntries}
-use Rattle.model.specs.Modifiers.{bits, isBit, isShiftOrLock, bit, caresFor}
+use Rattle.model.specs.Modifiers.{bits, isBit, isShiftOrLock, bit, asksBit}
 use Rattle.model.specs.Tables.{Call, Production, Table}
 use Rattle.model.specs.Asking.{partBytes}
 use Rattle.model.specs.declared.scan.Span.{Span}
@@ -64,7 +64,7 @@ isTestable e k = not (e .colon && isShiftOrLock k)
 
 -- "on codes 2..8 alone `!` (or `!:`) wherever every testable bit is asked set or clear"
 unfoldable pub writesBang : KeptEvent → Bool
-writesBang e = takesModifiers (e .code) && all (λ k. not (isTestable e k) || caresFor e k) bits
+writesBang e = takesModifiers (e .code) && all (λ k. not (isTestable e k) || asksBit e k) bits
 
 -- a set bit by its name, a clear one with `~`
 abbrev pub bitText : KeptEvent → ℕ → List ℕ
@@ -72,7 +72,7 @@ bitText e k = cond (bit k (e .set)) (bitName k) (bytes "~" ++ bitName k)
 
 -- after `!` "only set bits listed"
 abbrev pub isWrittenBit : KeptEvent → ℕ → Bool
-isWrittenBit e k = cond (writesBang e) (bit k (e .set)) (caresFor e k)
+isWrittenBit e k = cond (writesBang e) (bit k (e .set)) (asksBit e k)
 
 -- "one blank between them"
 unfoldable pub bitsText : KeptEvent → List ℕ

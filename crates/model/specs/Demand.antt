@@ -2,17 +2,18 @@
 use Prim.Native.Nat.{ℕ, _≤_, _<_}
 use mathlib.Core.Path.{_≡_}
 use mathlib.Core.Logic.{_⊎_}
-use mathlib.Core.Bool.{true, false, cond, not}
+use mathlib.Core.Bool.{Bool, true, false, cond, not}
 use mathlib.Core.List.{List, [], _∷_, _++_}
 use mathlib.Core.Option.{Option, none, some}
 use lib.Dec.{eqb}
 use lib.ListN.{length}
 use Rattle.model.specs.Lists.{given}
 use Rattle.model.specs.Limits.{mapLength}
-use Rattle.model.specs.Numbers.{matchOrder, matchedNumber, matchedSelection}
+use Rattle.model.specs.Numbers.{MatchChecks, matchOrder, matchedNumber, matchedSelection}
+use Rattle.model.specs.Setting.{Setting}
 use Rattle.model.specs.Modifiers.{bit}
 use Rattle.model.specs.Tables.{Table}
-use Rattle.model.specs.Compiling.{compiled, accepted}
+use Rattle.model.specs.Compiling.{passesLimit, compiled, accepted}
 use Rattle.model.specs.Records.{isBadRecord, recordRead}
 use Rattle.model.specs.Selection.{Standing, standing}
 use Rattle.model.specs.Matching.{readingOf, tests}
@@ -23,7 +24,8 @@ use Rattle.model.specs.declared.answers.Matched.{Matched}
 
 -- ---- Tables and calls
 
--- "An accepted table is one that an accepted call gave"
+-- "An accepted table is one that an accepted call gave", by texts: compiled, or merged from accepted tables. The claim below
+-- does not go by it: it holds of every table that passes no limit, and so of all bytes that are a whole table (crates/claims).
 pub data Accepted : Table → Type 0 where
   byCompiling : {t : Table} (text : List ℕ) → compiled text ≡ accepted t → Accepted t
   byMerging :
@@ -37,15 +39,26 @@ pub record MatchCall : Type 0 where
 
 -- ---- What the rules name
 
-module _ (t : Table) (map : List ℕ) (limit : ℕ) where
-  -- the number that refuses a call on an accepted table and a state that came from a fresh one: "over its record or over a map"
+-- the checks of a call on a whole table and a whole state: "over its record or over a map"; `full` says whether the context
+-- would keep too many events
+abbrev pub callChecks : Setting → MatchCall → (full : Bool) → MatchChecks
+callChecks setting c full =
+    record {
+      short = not (eqb (length (setting .keyboard)) mapLength);
+      tableBroken = false;
+      stateBroken = false;
+      recordBad = isBadRecord (c .bytes) (c .order);
+      full = full;
+    }
+
+module _ (t : Table) (setting : Setting) where
+  -- the number that refuses a call from a fresh state on, where no context keeps too many events
   abbrev pub callNumber : MatchCall → ℕ
-  callNumber c =
-      matchOrder (not (eqb (length map) mapLength)) false false (isBadRecord (c .bytes) (c .order)) false
+  callNumber c = matchOrder (callChecks setting c false)
 
   -- rule 1: "An event whose type no production has, expansion included, is dropped"
   abbrev pub heardEvent : RecordRead → List Event
-  heardEvent (RecordRead.Event e) = cond (readingOf t map limit .known e) (e ∷ []) []
+  heardEvent (RecordRead.Event e) = cond (readingOf t setting .known e) (e ∷ []) []
   heardEvent (RecordRead.Refused n) = []
 
   -- what a call adds to the history: "A call that the numbers above refuse .. adds nothing"
@@ -58,7 +71,7 @@ module _ (t : Table) (map : List ℕ) (limit : ℕ) where
   history (c ∷ cs) = heard c ++ history cs
 
   abbrev pub standingAt : List MatchCall → ℕ → Standing
-  standingAt cs n = standing (readingOf t map limit) (history cs) n
+  standingAt cs n = standing (readingOf t setting) (history cs) n
 
   -- what stands after the last event of the history of a list of calls
   abbrev pub standingAfter : List MatchCall → Standing
@@ -85,7 +98,7 @@ module _ (t : Table) (map : List ℕ) (limit : ℕ) where
 
 -- ---- What a matcher answers
 
--- a matcher on one table, map and multi-click time
+-- a matcher on one table and setting
 pub record Matcher (S : Type 0) : Type 0 where
   pub fresh : S
   pub answer : S → MatchCall → Matched
@@ -102,55 +115,57 @@ module _ {S : Type 0} (m : Matcher S) where
   stateAfter s [] = s
   stateAfter s (c ∷ cs) = stateAfter (m .next s c) cs
 
--- ---- Alike in all but bits that the table does not test
+-- ---- "alike in all but some bits": `others` has the bits that must agree
 
 -- "events that differ in those bits at most"
-pub record Like (t : Table) (x y : Event) : Type 0 where
+pub record Like (others : ℕ → Bool) (x y : Event) : Type 0 where
   pub code : x .code ≡ y .code
   pub detail : x .detail ≡ y .detail
   pub time : x .time ≡ y .time
-  pub state : (k : ℕ) → tests t k ≡ true → bit k (x .state) ≡ bit k (y .state)
+  pub state : (k : ℕ) → others k ≡ true → bit k (x .state) ≡ bit k (y .state)
 
 -- "their records read to the same refusal or to events that differ in those bits at most"
-abbrev pub LikeReads : Table → RecordRead → RecordRead → Type 0
-LikeReads t (RecordRead.Event x) (RecordRead.Event y) = Like t x y
-LikeReads t (RecordRead.Event x) (RecordRead.Refused n) = ⊥
-LikeReads t (RecordRead.Refused n) (RecordRead.Event y) = ⊥
-LikeReads t (RecordRead.Refused n) (RecordRead.Refused k) = n ≡ k
+abbrev pub LikeReads : (ℕ → Bool) → RecordRead → RecordRead → Type 0
+LikeReads others (RecordRead.Event x) (RecordRead.Event y) = Like others x y
+LikeReads others (RecordRead.Event x) (RecordRead.Refused n) = ⊥
+LikeReads others (RecordRead.Refused n) (RecordRead.Event y) = ⊥
+LikeReads others (RecordRead.Refused n) (RecordRead.Refused k) = n ≡ k
 
 -- "equally long and, at each place, .."
-pub data Alike (t : Table) : List MatchCall → List MatchCall → Type 0 where
-  empty : Alike t [] []
+pub data Alike (others : ℕ → Bool) : List MatchCall → List MatchCall → Type 0 where
+  empty : Alike others [] []
   more :
       {c d : MatchCall} {cs ds : List MatchCall}
-      → LikeReads t (recordRead (c .bytes) (c .order)) (recordRead (d .bytes) (d .order))
-      → Alike t cs ds → Alike t (c ∷ cs) (d ∷ ds)
+      → LikeReads others (recordRead (c .bytes) (c .order)) (recordRead (d .bytes) (d .order))
+      → Alike others cs ds → Alike others (c ∷ cs) (d ∷ ds)
 
 -- ---- The claim
 
 -- about one list of calls
-pub record Demand3 {S : Type 0} (m : Matcher S) (t : Table) (map : List ℕ) (limit : ℕ) (cs : List MatchCall) : Type 0 where
+pub record Demand3 {S : Type 0} (m : Matcher S) (t : Table) (setting : Setting) (cs : List MatchCall) : Type 0 where
   -- "at every call the selected production is the one that 01's rules name from the whole history, or none exactly where
   -- they name none"
-  pub selects : answersFrom m (m .fresh) cs ≡ namedFrom t map limit [] cs
+  pub selects : answersFrom m (m .fresh) cs ≡ namedFrom t setting [] cs
   -- "a refused call selects none and changes nothing"
   pub refuses :
       (before rest : List MatchCall) (c : MatchCall) → cs ≡ before ++ (c ∷ rest)
       → (matchedNumber (m .answer (stateAfter m (m .fresh) before) c) ≡ 0 → ⊥)
       → (matchedSelection (m .answer (stateAfter m (m .fresh) before) c) ≡ none)
       × (m .next (stateAfter m (m .fresh) before) c ≡ stateAfter m (m .fresh) before)
-  -- "the events of two selections start at the same event or have none in common": at events i and j of the history, whose
-  -- stretches begin at the latest start there was
+  -- "the events of two selections start at the same event or have none in common": those at event i are from..i, those at
+  -- event j to..j, where `from` and `to` are the starts of the contexts open there
   pub apart :
-      (i j : ℕ) → i ≤ j → j ≤ length (history t map limit cs)
-      → given (standingAt t map limit cs i .selected) ≡ true
-      → given (standingAt t map limit cs j .selected) ≡ true
-      → (standingAt t map limit cs i .latest ≡ standingAt t map limit cs j .latest)
-      ⊎ (i < standingAt t map limit cs j .latest)
+      (i j from to : ℕ) → i ≤ j → j ≤ length (history t setting cs)
+      → given (standingAt t setting cs i .selected) ≡ true → standingAt t setting cs i .context ≡ some from
+      → given (standingAt t setting cs j .selected) ≡ true → standingAt t setting cs j .context ≡ some to
+      → (from ≡ to) ⊎ (i < to)
   -- "two lists alike in all but modifier bits that the table does not test get the same numbers and selections"
-  pub blind : (ds : List MatchCall) → Alike t cs ds → answersFrom m (m .fresh) cs ≡ answersFrom m (m .fresh) ds
+  pub blind :
+      (ds : List MatchCall) → Alike (tests setting t) cs ds → answersFrom m (m .fresh) cs ≡ answersFrom m (m .fresh) ds
 
--- "For any accepted table, one keyboard map, one multi-click time and every list of matcher calls from a fresh state"
-abbrev pub Demand3For : {S : Type 0} → (Table → List ℕ → ℕ → Matcher S) → Type 0
+-- "For any .. table, one keyboard map, one multi-click time and every list of matcher calls from a fresh state", where the
+-- table passes no limit
+abbrev pub Demand3For : {S : Type 0} → (Table → Setting → Matcher S) → Type 0
 Demand3For matcher =
-    (t : Table) → Accepted t → (map : List ℕ) (limit : ℕ) (cs : List MatchCall) → Demand3 (matcher t map limit) t map limit cs
+    (t : Table) → passesLimit (t .productions) ≡ false → (setting : Setting) (cs : List MatchCall)
+    → Demand3 (matcher t setting) t setting cs

@@ -8,16 +8,17 @@ use lib.ListN.{length, replicate}
 use Rattle.model.specs.Lists.{bytes}
 use Rattle.model.specs.Canonical.{joinedBy}
 use Rattle.model.specs.Compiling.{Outcome, accepted, refused, compiled}
+use Rattle.model.specs.Setting.{Setting}
 use Rattle.model.specs.Demand.{MatchCall, namedFrom}
 use Rattle.model.specs.declared.answers.Matched.{Matched}
 
 -- ---- What is asked
 
-pub data Asked : Type 0 where
+pub data Question : Type 0 where
   -- what a text compiles to
-  compile : (text : List ℕ) → Asked
-  -- what calls select, from a fresh state, on the table of a text under a keyboard map and a multi-click time
-  select : (text keysyms : List ℕ) (limit : ℕ) (calls : List MatchCall) → Asked
+  compile : (text : List ℕ) → Question
+  -- what calls select, from a fresh state, on the table of a text under a setting
+  select : (text : List ℕ) (setting : Setting) (calls : List MatchCall) → Question
 
 pub data Answered : Type 0 where
   -- accepted, with so many productions
@@ -30,22 +31,22 @@ abbrev pub exampleOutcome : Outcome → Answered
 exampleOutcome (accepted t) = productions (length (t .productions))
 exampleOutcome (refused n place) = refusal n place
 
-abbrev pub selectAnswer : Outcome → List ℕ → ℕ → List MatchCall → Answered
-selectAnswer (accepted t) keysyms limit calls = matched (namedFrom t keysyms limit [] calls)
-selectAnswer (refused n place) keysyms limit calls = refusal n place
+abbrev pub selectAnswer : Outcome → Setting → List MatchCall → Answered
+selectAnswer (accepted t) setting calls = matched (namedFrom t setting [] calls)
+selectAnswer (refused n place) setting calls = refusal n place
 
 -- what the definitions answer
-unfoldable pub answer : Asked → Answered
+unfoldable pub answer : Question → Answered
 answer (compile text) = exampleOutcome (compiled text)
-answer (select text keysyms limit calls) = selectAnswer (compiled text) keysyms limit calls
+answer (select text setting calls) = selectAnswer (compiled text) setting calls
 
 pub record Example : Type 0 where
-  pub asked : Asked
+  pub question : Question
   pub answered : Answered
 
 -- every line of a table is answered as it says
 abbrev pub AllAnswered : List Example → Type 0
-AllAnswered es = map (λ e. answer (e .asked)) es ≡ map (λ e. e .answered) es
+AllAnswered es = map (λ e. answer (e .question)) es ≡ map (λ e. e .answered) es
 
 -- ---- Records
 
@@ -71,8 +72,12 @@ abbrev pub release : (button time : ℕ) → MatchCall
 release button time = call 5 button time 0
 
 -- a map whose keycode 38 has the pair (0x61, 0x41), and every other key none
-unfoldable pub keyboard : List ℕ
-keyboard = replicate 60 0 ++ (0x61 ∷ 0x41 ∷ replicate 434 0)
+unfoldable pub oneKey : List ℕ
+oneKey = replicate 60 0 ++ (0x61 ∷ 0x41 ∷ replicate 434 0)
+
+-- under that map and a multi-click time
+abbrev pub underTime : ℕ → Setting
+underTime time = record { keyboard = oneKey; time = time }
 
 -- keycode 38, with Shift and without
 abbrev pub shifted : MatchCall
@@ -99,51 +104,51 @@ eventsInOne n = joinedBy (bytes ",") (replicate n (bytes "<Key>a")) ++ bytes ":x
 unfoldable pub starred : List Example
 starred =
     -- "empty text: accepted, no productions"
-    record { asked = compile []; answered = productions 0 }
+    record { question = compile []; answered = productions 0 }
     -- "P: press 1, release 1 selects none, then production 0"
     ∷ record {
-      asked = select tableP keyboard 200 (press 1 1000 ∷ release 1 1050 ∷ []);
+      question = select tableP (underTime 200) (press 1 1000 ∷ release 1 1050 ∷ []);
       answered = matched (Matched.Heard ∷ Matched.Selected 0 ∷ []);
     }
     -- "P: press 1, release 2, release 1: none, none, production 1"
     ∷ record {
-      asked = select tableP keyboard 200 (press 1 1000 ∷ release 2 1050 ∷ release 1 1100 ∷ []);
+      question = select tableP (underTime 200) (press 1 1000 ∷ release 2 1050 ∷ release 1 1100 ∷ []);
       answered = matched (Matched.Heard ∷ Matched.Heard ∷ Matched.Selected 1 ∷ []);
     }
     -- "`<Btn1Down>(2):g()`: press, release, .. press (five), all quick: selected at the third only"
     ∷ record {
-      asked =
-          select doublePress keyboard 200
+      question =
+          select doublePress (underTime 200)
           (press 1 1000 ∷ release 1 1010 ∷ press 1 1020 ∷ release 1 1030 ∷ press 1 1040 ∷ []);
       answered = matched (Matched.Heard ∷ Matched.Heard ∷ Matched.Selected 0 ∷ Matched.Heard ∷ Matched.Heard ∷ []);
     }
     -- "times 4294967290 and 94: no pair with limit 100"
     ∷ record {
-      asked = select doublePress keyboard 100 (press 1 4294967290 ∷ release 1 20 ∷ press 1 94 ∷ []);
+      question = select doublePress (underTime 100) (press 1 4294967290 ∷ release 1 20 ∷ press 1 94 ∷ []);
       answered = matched (Matched.Heard ∷ Matched.Heard ∷ Matched.Heard ∷ []);
     }
     -- "a pair with 101"
     ∷ record {
-      asked = select doublePress keyboard 101 (press 1 4294967290 ∷ release 1 20 ∷ press 1 94 ∷ []);
+      question = select doublePress (underTime 101) (press 1 4294967290 ∷ release 1 20 ∷ press 1 94 ∷ []);
       answered = matched (Matched.Heard ∷ Matched.Heard ∷ Matched.Selected 0 ∷ []);
     }
     -- "`Shift ~Shift<Key>a:x()` and `None<Ctrl>a:x()`: 8"
-    ∷ record { asked = compile (bytes "Shift ~Shift<Key>a:x()"); answered = refusal 8 0 }
-    ∷ record { asked = compile (bytes "None<Ctrl>a:x()"); answered = refusal 8 0 }
+    ∷ record { question = compile (bytes "Shift ~Shift<Key>a:x()"); answered = refusal 8 0 }
+    ∷ record { question = compile (bytes "None<Ctrl>a:x()"); answered = refusal 8 0 }
     -- "key pair (0x61, 0x41): `<Key>A` matches with and without Shift"
     ∷ record {
-      asked = select (bytes "<Key>A:x()") keyboard 200 (shifted ∷ unshifted ∷ []);
+      question = select (bytes "<Key>A:x()") (underTime 200) (shifted ∷ unshifted ∷ []);
       answered = matched (Matched.Selected 0 ∷ Matched.Selected 0 ∷ []);
     }
     -- "`:<Key>a` not with Shift"
     ∷ record {
-      asked = select (bytes ":<Key>a:x()") keyboard 200 (shifted ∷ unshifted ∷ []);
+      question = select (bytes ":<Key>a:x()") (underTime 200) (shifted ∷ unshifted ∷ []);
       answered = matched (Matched.Heard ∷ Matched.Selected 0 ∷ []);
     }
     -- "`<Key>(2+)a:x()`: 10; `<Key>(0)a:x()`: 6"
-    ∷ record { asked = compile (bytes "<Key>(2+)a:x()"); answered = refusal 10 0 }
-    ∷ record { asked = compile (bytes "<Key>(0)a:x()"); answered = refusal 6 0 }
+    ∷ record { question = compile (bytes "<Key>(2+)a:x()"); answered = refusal 10 0 }
+    ∷ record { question = compile (bytes "<Key>(0)a:x()"); answered = refusal 6 0 }
     -- "24 events in a production: 0; 25: 11"
-    ∷ record { asked = compile (eventsInOne 24); answered = productions 1 }
-    ∷ record { asked = compile (eventsInOne 25); answered = refusal 11 0 }
+    ∷ record { question = compile (eventsInOne 24); answered = productions 1 }
+    ∷ record { question = compile (eventsInOne 25); answered = refusal 11 0 }
     ∷ []

@@ -7,7 +7,9 @@ use lib.ListN.{getD}
 use Rattle.model.specs.Lists.{any}
 use Rattle.model.specs.Bytes.{inRange}
 use Rattle.model.specs.Names.{shiftBit, lockBit}
-use Rattle.model.specs.Modifiers.{bit, caresFor}
+use Rattle.model.specs.Modifiers.{bit}
+use Rattle.model.specs.Setting.{Setting}
+use Rattle.model.specs.Asked.{Test, asked, caresFor}
 use Rattle.model.specs.declared.events.KeptEvent.{KeptEvent}
 
 -- ---- "Case pairs: 0x61..0x7A, 0xE0..0xF6 and 0xF8..0xFE, upper is 0x20 less."
@@ -66,13 +68,15 @@ matchesWithout a b state caresShift caresLock detail =
     (λ shift. any (λ lock. eqb (keysymOf a b shift lock) detail) (settings caresLock (bit lockBit state)))
     (settings caresShift (bit shiftBit state))
 
--- the pair of an event with this state gives the keysym that a kept event asks for
-unfoldable pub pairMatches : KeptEvent → ℕ → ℕ → ℕ → ℕ → Bool
-pairMatches e a b state detail =
-    cond (e .colon)
+-- the pair of an event with this state gives the keysym that is asked for beside a test, with a colon or without
+unfoldable pub pairMatches : Test → (colon : Bool) → ℕ → ℕ → ℕ → ℕ → Bool
+pairMatches t colon a b state detail =
+    cond colon
     (matchesWithColon a b state detail)
-    (matchesWithout a b state (caresFor e shiftBit) (caresFor e lockBit) detail)
+    (matchesWithout a b state (caresFor t shiftBit) (caresFor t lockBit) detail)
 
--- the same of an event's keycode under a keyboard map
-unfoldable pub keyMatches : List ℕ → KeptEvent → ℕ → ℕ → ℕ → Bool
-keyMatches map e keycode state detail = pairMatches e (firstKeysym map keycode) (secondKeysym map keycode) state detail
+-- the same of a kept event and an event's keycode
+unfoldable pub keyMatches : Setting → KeptEvent → ℕ → ℕ → ℕ → Bool
+keyMatches setting e keycode state detail =
+    pairMatches (asked setting e) (e .colon)
+    (firstKeysym (setting .keyboard) keycode) (secondKeysym (setting .keyboard) keycode) state detail

@@ -13,6 +13,8 @@ pub mod Tables
 pub mod Counts
 pub mod Judging
 pub mod Compiling
+pub mod Setting
+pub mod Asked
 pub mod Keyboard
 pub mod Records
 pub mod Selection
@@ -22,3 +24,4 @@ pub mod Asking
 pub mod Canonical
 pub mod Demand
 pub mod Examples
+pub mod TestedExamples

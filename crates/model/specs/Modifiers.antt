@@ -1,4 +1,5 @@
--- Document 01, "Modifier tests": which bits an event asks set or clear, when a state meets that, which bits a table tests.
+-- Document 01, "Modifier tests": the bits, which of them a written list and an added modifier ask set or clear, when a state
+-- meets that and when none can. The test of a kept event is in Asked, the bits that a table tests are in Matching.
 use Prim.Native.Nat.{ℕ, _+_, _/_, _%_, _^_}
 use mathlib.Core.Bool.{Bool, true, false, cond, not, _&&_, _||_}
 use mathlib.Core.List.{List, [], _∷_}
@@ -142,8 +143,8 @@ unfoldable pub noStateMeets : ℕ → ℕ → Bool → Bool
 noStateMeets set clear clause =
     any (λ k. bit k set && bit k clear) bits || (clause && all (λ k. bit k clear) buttonBits)
 
--- ---- Which bits are tested
+-- ---- What a kept event has of a bit
 
--- cared for: asked set or asked clear by the event
-abbrev pub caresFor : KeptEvent → ℕ → Bool
-caresFor e k = bit k (e .set) || bit k (e .clear)
+-- it asks the bit set or clear
+abbrev pub asksBit : KeptEvent → ℕ → Bool
+asksBit e k = bit k (e .set) || bit k (e .clear)

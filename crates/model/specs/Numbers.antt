@@ -110,15 +110,28 @@ eventOrder unknown range unbuilt list colon impossible =
     ∷ record { applies = impossible; number = impossibleTest }
     ∷ [])
 
+-- what the matcher checks, in its order
+pub record MatchChecks : Type 0 where
+  -- 1
+  pub short : Bool
+  -- 12
+  pub tableBroken : Bool
+  -- 14
+  pub stateBroken : Bool
+  -- 13
+  pub recordBad : Bool
+  -- 15
+  pub full : Bool
+
 -- "Matcher: 1, 12, 14, 13, 15."
-abbrev pub matchOrder : (short table state recordBad full : Bool) → ℕ
-matchOrder short table state recordBad full =
+abbrev pub matchOrder : MatchChecks → ℕ
+matchOrder c =
     first
-    (record { applies = short; number = shortBuffer }
-    ∷ record { applies = table; number = tableNotWhole }
-    ∷ record { applies = state; number = stateNotWhole }
-    ∷ record { applies = recordBad; number = badRecord }
-    ∷ record { applies = full; number = contextFull }
+    (record { applies = c .short; number = shortBuffer }
+    ∷ record { applies = c .tableBroken; number = tableNotWhole }
+    ∷ record { applies = c .stateBroken; number = stateNotWhole }
+    ∷ record { applies = c .recordBad; number = badRecord }
+    ∷ record { applies = c .full; number = contextFull }
     ∷ [])
 
 -- "Merger: 1, 12, 17, 11, the old table first at each."

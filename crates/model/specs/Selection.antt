@@ -1,4 +1,17 @@
 -- Document 01, "Selection": the four rules, over the numbered history.
+--
+-- An example: table P of document 01, `<Btn1Down>,<Btn1Up>:toves()` and `<Btn1Up>:did()`.
+--
+--     event         context from   latest start   last selection   selected
+--     at first      none           0              0
+--     1 press 1     1              1              0                none: 1..1 is a prefix of toves's, and no more
+--     2 release 2   none           1              0                none: neither 1..2 nor 2..2 reads as a prefix
+--     3 release 1   3              3              3                did(): 2..3 reads as no prefix, 3..3 is did's whole sequence
+--     4 press 1     4              4              3                none: 3..4 reads as no prefix
+--     5 release 1   4              4              5                toves(): 4..5 goes on, and did() inside it is not taken
+--     6 release 1   6              6              6                did(): a new start lies after 4 and after 5
+--
+-- Each line is `standing` after that event; `context`, `latest`, `last` and `selected` are its fields.
 use Prim.Native.Nat.{ℕ, zero, suc, pred, max, _-_}
 use mathlib.Core.Bool.{Bool, false, cond}
 use mathlib.Core.List.{List}

@@ -11,7 +11,7 @@ use borrow.Author.Tests.{le-leb, lt-leb}
 use Rattle.words.specs.Runs.{run, every}
 use Rattle.words.proofs.RunLaws.{run-more, every-more, every-same}
 use Rattle.model.specs.Lists.{all, those}
-use Rattle.model.specs.Modifiers.{bit, bits, caresFor}
+use Rattle.model.specs.Modifiers.{bit, bits, asksBit}
 use Rattle.model.specs.Canonical.{joinedBy, each, bitsText, bitText, isWrittenBit, isTestable, writesBang}
 use Rattle.model.specs.declared.events.KeptEvent.{KeptEvent}
 use Rattle.writing.specs.Overlay.{separator}
@@ -98,12 +98,12 @@ twice : (b : Bool) → b ≡ not (not b)
 twice true = refl
 twice false = refl
 
-asked-same : (e : KeptEvent) (k : ℕ) → isAsked (e .set) (e .clear) (e .colon) k ≡ (not (isTestable e k) || caresFor e k)
+asked-same : (e : KeptEvent) (k : ℕ) → isAsked (e .set) (e .clear) (e .colon) k ≡ (not (isTestable e k) || asksBit e k)
 unfolding isAsked
-asked-same e k = ap (λ (b : Bool). b || caresFor e k) (twice (e .colon && ltb k 2))
+asked-same e k = ap (λ (b : Bool). b || asksBit e k) (twice (e .colon && ltb k 2))
 
 abbrev needed : KeptEvent → ℕ → Bool
-needed e k = not (isTestable e k) || caresFor e k
+needed e k = not (isTestable e k) || asksBit e k
 
 pub bang-inside : (e : KeptEvent) → 2 ≤ e .code → e .code ≤ 8 → every (isAsked (e .set) (e .clear) (e .colon)) 0 13 ≡ writesBang e
 unfolding writesBang

@@ -8,7 +8,7 @@ use lib.Dec.{eqb, lit<}
 use borrow.Author.Tests.{eqb-true, ltb-true}
 use Rattle.model.specs.Lists.{any, all}
 use Rattle.model.specs.Codes.{takesModifiers}
-use Rattle.model.specs.Modifiers.{bit, bits, buttonBits, isShiftOrLock, isBit, lists, listsSet, listsClear, has, addsBit, asksSet, asksClear, setMask, clearMask, noStateMeets, caresFor}
+use Rattle.model.specs.Modifiers.{bit, bits, buttonBits, isShiftOrLock, isBit, lists, listsSet, listsClear, has, addsBit, asksSet, asksClear, setMask, clearMask, noStateMeets, asksBit}
 use Rattle.model.specs.Canonical.{writingOrder, isTestable, isWrittenBit, writesBang}
 use Rattle.model.specs.declared.events.KeptEvent.{KeptEvent}
 use Rattle.model.specs.declared.names.Added.{Added}
@@ -107,15 +107,15 @@ module _ (e : KeptEvent) (w : KeptWell e) where
       (w .sound .possible))
       k l
 
-  bang-asks : (k : ℕ) → k < 13 → writesBang e ≡ true → (not (isTestable e k) || caresFor e k) ≡ true
+  bang-asks : (k : ℕ) → k < 13 → writesBang e ≡ true → (not (isTestable e k) || asksBit e k) ≡ true
   unfolding writesBang
   bang-asks k l b =
-      every-at 13 (λ j. not (isTestable e j) || caresFor e j)
-      (sym (all-bits (λ j. not (isTestable e j) || caresFor e j))
-      ∙ both-right (takesModifiers (e .code)) (all (λ j. not (isTestable e j) || caresFor e j) bits) b)
+      every-at 13 (λ j. not (isTestable e j) || asksBit e j)
+      (sym (all-bits (λ j. not (isTestable e j) || asksBit e j))
+      ∙ both-right (takesModifiers (e .code)) (all (λ j. not (isTestable e j) || asksBit e j) bits) b)
       k l
 
-  untested : (k : ℕ) → (e .colon && isShiftOrLock k) ≡ true → caresFor e k ≡ false
+  untested : (k : ℕ) → (e .colon && isShiftOrLock k) ≡ true → asksBit e k ≡ false
   untested zero q = w .sound .shift (both-left (e .colon) (isShiftOrLock 0) q)
   untested (suc zero) q = w .sound .lock (both-left (e .colon) (isShiftOrLock 1) q)
   untested (suc (suc k)) q =
@@ -158,7 +158,7 @@ module _ (e : KeptEvent) (w : KeptWell e) where
       (ap₂ _||_ (asks-set 11 (lit< tt)) (ap (λ (x : Bool). x || false) (asks-set 12 (lit< tt))))))
 
   -- a bit is listed only where it is cared for
-  pub listed-cared : (k : ℕ) → k < 13 → caresFor e k ≡ false → has (listOf e) k ≡ false
+  pub listed-cared : (k : ℕ) → k < 13 → asksBit e k ≡ false → has (listOf e) k ≡ false
   listed-cared k l q =
       let s : bit k (e .set) ≡ false = or-left (bit k (e .set)) (bit k (e .clear)) q in
       let c : bit k (e .clear) ≡ false = or-right (bit k (e .set)) (bit k (e .clear)) q in

@@ -15,7 +15,7 @@ use Rattle.model.specs.Codes.{isKey, isButton, motionNotify, hasMode, mappingNo
 use Rattle.model.specs.Names.{shiftBit, lockBit, typeNamed, typeEntries, protocolEntries, synonymEntries, abbreviationEntries}
 use Rattle.model.specs.Details.{detailNamed}
 use Rattle.model.specs.Events.{Modifier, ModifierList, listed, noModifier, anyModifier, Written, WrittenEvent, event, key}
-use Rattle.model.specs.Modifiers.{bit, mask, buttonBits, isShiftOrLock, listsSet, listsClear, has, hasColon, isWritten, addsBit, addsClause, asksOthersClear, untestedByColon, asksSet, asksClear, setMask, clearMask, keepsClause, noStateMeets, caresFor}
+use Rattle.model.specs.Modifiers.{bit, mask, buttonBits, isShiftOrLock, listsSet, listsClear, has, hasColon, isWritten, addsBit, addsClause, asksOthersClear, untestedByColon, asksSet, asksClear, setMask, clearMask, keepsClause, noStateMeets, asksBit}
 use Rattle.model.specs.Judging.{fixes, detailOf, readValue, keptDetail, hasStandard, isUnknown, isOutOfRange, isUnbuilt, isListNotTaken, isColonMisplaced, isImpossible, keptEvent, eventNumber, keepUnless, judgedAs, judgedWritten, keyPressOf, judgedMark, judged}
 use Rattle.model.specs.declared.scan.KeyMark.{KeyMark}
 use Rattle.model.specs.declared.events.Detail.{Detail}
@@ -48,8 +48,8 @@ pub record Sound (e : KeptEvent) : Type 0 where
   pub possible : noStateMeets (e .set) (e .clear) (e .clause) ≡ false
   pub bare : takesModifiers (e .code) ≡ false → Bare e
   pub key : e .colon ≡ true → isKey (e .code) ≡ true
-  pub shift : e .colon ≡ true → caresFor e shiftBit ≡ false
-  pub lock : e .colon ≡ true → caresFor e lockBit ≡ false
+  pub shift : e .colon ≡ true → asksBit e shiftBit ≡ false
+  pub lock : e .colon ≡ true → asksBit e lockBit ≡ false
   pub motion : e .clause ≡ true → e .code ≡ 6
   pub buttons : e .clause ≡ true → any (λ k. bit k (e .set)) buttonBits ≡ false
   pub detail : DetailFits (e .code) (e .detail)

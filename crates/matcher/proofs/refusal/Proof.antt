@@ -5,7 +5,7 @@ use mathlib.Core.Bool.{true, false}
 use denote.Ref.{now}
 use borrow.Author.Tests.{not-true, not-false}
 use Rattle.tables.specs.Whole.{whole}
-use Rattle.matcher.specs.State.{wholeState}
+use Rattle.states.specs.State.{wholeState}
 use Rattle.keyboard.specs.Maps.{mapNumbers}
 use Rattle.keyboard.proofs.Maps.{map-bytes, map-numbers}
 use Rattle.matcher.proofs.MatchLaws.{short-table, short-map, not-short}

@@ -1,6 +1,6 @@
 -- `matcher::moves::answered` meets its contract.
 use mathlib.Core.Path.{sym, ap}
-use Rattle.matcher.specs.declared.walk.Passed.{Passed}
+use Rattle.walk.specs.declared.Passed.{Passed}
 use Rattle.matcher.specs.Moves.{answerWith}
 use borrow.Author.Needs.{needs}
 use Rattle.matcher.proofs.moves.answered.Statement.{statement}

@@ -4,10 +4,10 @@ use native.Mathlib.Omega.{arith}
 use mathlib.Core.Path.{_≡_, refl, sym, _∙_}
 use denote.Ref.{now}
 use Rattle.tables.specs.Reading.{decode}
-use Rattle.matcher.specs.declared.walk.Passed.{Passed}
-use Rattle.matcher.specs.Walk.{WalkReady}
+use Rattle.walk.specs.declared.Passed.{Passed}
+use Rattle.follow.specs.Follow.{WalkReady}
 use Rattle.keyboard.specs.Maps.{mapNumbers}
-use Rattle.matcher.proofs.StateLaws.{state-facts}
+use Rattle.states.proofs.StateLaws.{state-facts}
 use Rattle.matcher.proofs.MoveLaws.{more-ready, heard-no, heard-yes}
 use borrow.Author.Needs.{needs}
 use Rattle.matcher.proofs.moves.heard.Statement.{statement}

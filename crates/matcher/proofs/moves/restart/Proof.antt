@@ -3,8 +3,8 @@ use mathlib.Core.Path.{_∙_}
 use denote.Ref.{now}
 use Rattle.tables.specs.Reading.{decode}
 use Rattle.keyboard.specs.Maps.{mapNumbers}
-use Rattle.matcher.specs.State.{slotsOf}
-use Rattle.matcher.proofs.SlotLaws.{length-slots}
+use Rattle.states.specs.State.{slotsOf}
+use Rattle.states.proofs.SlotLaws.{length-slots}
 use Rattle.matcher.proofs.MoveLaws.{restart-is}
 use borrow.Author.Needs.{needs}
 use Rattle.matcher.proofs.moves.restart.Statement.{statement}

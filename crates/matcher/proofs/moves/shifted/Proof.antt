@@ -5,8 +5,8 @@ use mathlib.Core.Path.{_≡_, sym, ap, _∙_}
 use denote.Ref.{now}
 use lib.ListN.{length, take, drop}
 use lib.Seq.{length-slice}
-use Rattle.matcher.specs.State.{slotsOf, inSlots}
-use Rattle.matcher.proofs.SlotLaws.{length-slots, in-slot, length-in}
+use Rattle.states.specs.State.{slotsOf, inSlots}
+use Rattle.states.proofs.SlotLaws.{length-slots, in-slot, length-in}
 use Rattle.matcher.proofs.MoveLaws.{no-slots, shift-none, shift-more}
 use borrow.Author.Needs.{needs}
 use Rattle.matcher.proofs.moves.shifted.Statement.{statement}

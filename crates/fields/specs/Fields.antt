@@ -1,0 +1,13 @@
+-- Words of event i of a table that its other definitions read as parts.
+use Prim.Native.Nat.{ℕ, _+_, _*_}
+use mathlib.Core.List.{List}
+use Rattle.words.specs.Words.{wordAt}
+use Rattle.tables.specs.Layout.{flagsAt, lowsAt, highsAt}
+
+-- colon, clause and whether a detail is asked for, as bits
+unfoldable pub flagsIn : List ℕ → ℕ → ℕ
+flagsIn l i = wordAt l (flagsAt + i)
+
+-- the detail, of two words
+unfoldable pub valueIn : List ℕ → ℕ → ℕ
+valueIn l i = wordAt l (lowsAt + i) + 65536 * wordAt l (highsAt + i)

@@ -1,0 +1,356 @@
+-- An event that begins a production along which a stretch reads as a prefix passes the quick test, and so stands within the
+-- bounds of those that pass.
+use Prim.Native.Nat.{ℕ, _+_, _-_, _*_, _/_, _%_, _≤_, _<_}
+use native.Mathlib.Omega.{arith}
+use borrow.Author.Tests.{eqb-true, eq-eqb, ltb-true, ltb-false, le-leb}
+use mathlib.Core.Path.{_≡_, refl, sym, ap, _∙_}
+use mathlib.Core.Bool.{Bool, true, false, cond, not, _||_, true≢false}
+use mathlib.Core.List.{List, [], _∷_}
+use lib.Bits.{bitAnd, bitOr, and-le-l, and-le-r, or-add-and}
+use lib.Dec.{eqb, leb, ltb}
+use lib.ListN.{length, getD, take, drop}
+use Rattle.words.specs.Words.{wordAt}
+use Rattle.words.proofs.Bools.{and-left, and-both, chain-parts}
+use Rattle.keyboard.specs.Folds.{fold, folded}
+use Rattle.keyboard.proofs.Folds.{asked-in}
+use Rattle.model.specs.Counts.{quick}
+use Rattle.model.specs.Matching.{detailMet}
+use Rattle.model.specs.Keyboard.{firstKeysym, secondKeysym}
+use Rattle.model.specs.Modifiers.{bitsMet, clauseMet, stateMeets}
+use Rattle.model.specs.declared.events.Event.{Event}
+use Rattle.modifiers.proofs.Meeting.{bits-met}
+use Rattle.records.specs.Ranges.{EventRanges}
+use Rattle.counts.specs.Elements.{releases, elementCount, elementCode}
+use Rattle.tables.specs.Layout.{codesAt, countsAt, setsAt, clearsAt, lowsAt, highsAt}
+use Rattle.tables.specs.Reading.{isFlag, eventFromWords, eventEntry, eventTotal}
+use Rattle.filter.specs.declared.Sought.{Sought}
+use Rattle.follow.specs.declared.Followed.{Followed}
+use Rattle.states.specs.State.{zeroEvent}
+use Rattle.filter.specs.Filter.{Outside}
+use Rattle.follow.specs.Follow.{eventMeets, detailAsked, elementOf, fitsAfter, sizeIn}
+use Rattle.fields.specs.Fields.{flagsIn, valueIn}
+use Rattle.filter.specs.Filter.{other, soughtOf, suits, codeSeems, detailSeems, seems, mayBegin, pairs, codeBegins, PassersWithin}
+use Rattle.fields.proofs.TableFacts.{EntryFacts, TableFacts}
+use Rattle.follow.proofs.EventLaws.{meets-detail}
+use Rattle.follow.proofs.FollowLaws.{target, Walks, walks-start, walks-other, walks-over, walks-no, walks-turn}
+
+-- ---- The code
+
+release-odd : (own : ℕ) → releases own ≡ true → own % 2 ≡ 1
+unfolding releases
+release-odd own q = go (eqb own 3) refl
+  where
+    go : (t : Bool) → eqb own 3 ≡ t → own % 2 ≡ 1
+    go true e = rw (eqb-true own 3 e)
+    go false e = rw (eqb-true own 5 (ap (λ (t : Bool). t || eqb own 5) (sym e) ∙ q))
+
+first-code : (own count : ℕ) (s : Sought) → elementCode own count 0 ≡ s .code → codeSeems own s ≡ true
+unfolding elementCode codeSeems
+first-code own count s e = go (leb count 1) refl
+  where
+    same : own ≡ s .code → eqb (own / 2) (s .code / 2) ≡ true
+    same q = eq-eqb (own / 2) (s .code / 2) (omega arith)
+
+    kind : (t : Bool) → releases own ≡ t → leb count 1 ≡ false → eqb (own / 2) (s .code / 2) ≡ true
+    kind true q r =
+        let p : own - 1 ≡ s .code = sym (rw (r, q)) ∙ e in
+        let o : own % 2 ≡ 1 = release-odd own q in
+        eq-eqb (own / 2) (s .code / 2) (omega arith)
+    kind false q r = same (sym (rw (r, q)) ∙ e)
+
+    go : (t : Bool) → leb count 1 ≡ t → eqb (own / 2) (s .code / 2) ≡ true
+    go true q = same (sym (rw q) ∙ e)
+    go false q = kind (releases own) refl q
+
+-- ---- The detail
+
+-- the bytes of a table are bytes
+abbrev pub Bytes : List ℕ → Type 0
+Bytes l = (k : ℕ) → getD l k 0 < 256
+
+word-below : (l : List ℕ) → Bytes l → (k : ℕ) → wordAt l k < 65536
+unfolding wordAt
+word-below l b k = omega (arith, b (2 * k), b (2 * k + 1))
+
+low-is : (l : List ℕ) → Bytes l → (i : ℕ) → folded (valueIn l i) ≡ fold (wordAt l (lowsAt + i))
+unfolding folded valueIn
+low-is l b i =
+    let h = word-below l b (lowsAt + i) in
+    let e : (wordAt l (lowsAt + i) + 65536 * wordAt l (highsAt + i)) % 65536 ≡ wordAt l (lowsAt + i) = omega arith in
+    ap fold e
+
+sought-code : (map : List ℕ) (x : Event) → x .code ≡ soughtOf map x .code
+unfolding soughtOf
+sought-code map x = refl
+
+state-part : (map l : List ℕ) (i : ℕ) (x : Event) → eventMeets map (eventEntry l i) x ≡ true
+    → stateMeets (eventEntry l i .set) (eventEntry l i .clear) (isFlag 2 (flagsIn l i)) (x .state) ≡ true
+unfolding eventMeets eventEntry eventFromWords flagsIn
+state-part map l i x m =
+    and-left (stateMeets (eventEntry l i .set) (eventEntry l i .clear) (isFlag 2 (flagsIn l i)) (x .state)) (detailMet map (eventEntry l i) (eventEntry l i .detail) x) m
+
+suits-state : (map l : List ℕ) (i : ℕ) (x : Event) → EntryFacts l i
+    → stateMeets (eventEntry l i .set) (eventEntry l i .clear) (isFlag 2 (flagsIn l i)) (x .state) ≡ true → suits l i (soughtOf map x) ≡ true
+unfolding suits stateMeets soughtOf eventEntry eventFromWords
+suits-state map l i x f m =
+    let set = wordAt l (setsAt + i) in
+    let clear = wordAt l (clearsAt + i) in
+    let b : bitsMet set clear (x .state) ≡ true = and-left (bitsMet set clear (x .state)) (clauseMet (isFlag 2 (flagsIn l i)) (x .state)) m in
+    and-left (eqb (bitAnd (x .state) set) set) (eqb (bitAnd (x .state) clear) 0) (sym (bits-met set clear (x .state) (f .setBelow) (f .clearBelow)) ∙ b)
+
+module _ (map : List ℕ) (x : Event) where
+  none-asked : (low : ℕ) → low ≡ 0 → detailSeems low (soughtOf map x) ≡ true
+  unfolding detailSeems
+  none-asked low e = rw e
+
+  or-assoc : (a b c : Bool) → (b || c) ≡ true → (a || b || c) ≡ true
+  or-assoc true b c e = refl
+  or-assoc false b c e = e
+
+  asked : (set clear : ℕ) (colon : Bool) (value low : ℕ) → folded value ≡ fold low → detailAsked map set clear colon value x ≡ true
+      → detailSeems low (soughtOf map x) ≡ true
+  unfolding detailAsked detailSeems soughtOf
+  asked set clear colon value low w e = go (leb (x .code) 3) refl
+    where
+      go : (t : Bool) → leb (x .code) 3 ≡ t → detailSeems low (soughtOf map x) ≡ true
+      go true q =
+          rw (q, ← w)
+          (or-assoc (eqb low 0) (eqb (folded value) (folded (firstKeysym map (x .detail))))
+          (eqb (folded value) (folded (other (firstKeysym map (x .detail)) (secondKeysym map (x .detail)))))
+          (asked-in (firstKeysym map (x .detail)) (secondKeysym map (x .detail)) value set clear colon (x .state) (rw q at e)))
+      go false q =
+          let p : x .detail ≡ value = eqb-true (x .detail) value (rw q at e) in
+          rw (q, p, ← w, eq-eqb (folded value) (folded value) refl) (or-assoc (eqb low 0) true true refl)
+
+  module _ (l : List ℕ) (b : Bytes l) (i : ℕ) (f : EntryFacts l i) (r : EventRanges x) where
+    detail-seems : eventMeets map (eventEntry l i) x ≡ true → detailSeems (wordAt l (lowsAt + i)) (soughtOf map x) ≡ true
+    detail-seems m = go (isFlag 4 (flagsIn l i)) refl
+      where
+        state-met : stateMeets (eventEntry l i .set) (eventEntry l i .clear) (isFlag 2 (flagsIn l i)) (x .state) ≡ true
+        state-met = state-part map l i x m
+
+        go : (t : Bool) → isFlag 4 (flagsIn l i) ≡ t → detailSeems (wordAt l (lowsAt + i)) (soughtOf map x) ≡ true
+        go true q =
+            asked (eventEntry l i .set) (eventEntry l i .clear) (isFlag 1 (flagsIn l i)) (valueIn l i) (wordAt l (lowsAt + i)) (low-is l b i) (meets-detail map l i x r state-met q ∙ m)
+        go false q = none-asked (wordAt l (lowsAt + i)) (f .bare q)
+
+    -- ---- The event
+
+    module _ (limit before : ℕ) where
+      seems-fits : fitsAfter map limit before (elementOf (eventEntry l i) 0) x ≡ true → seems l i (soughtOf map x) ≡ true
+      unfolding fitsAfter elementOf seems
+      seems-fits e =
+          let p = chain-parts (eqb (elementCode (eventEntry l i .code) (eventEntry l i .count) 0) (x .code))
+          (eventMeets map (eventEntry l i) x ∷ (not (elementOf (eventEntry l i) 0 .timed) || quick limit before (x .time)) ∷ []) e in
+          let c : codeSeems (wordAt l (codesAt + i)) (soughtOf map x) ≡ true
+          = rw (f .codeWord) (first-code (eventEntry l i .code) (eventEntry l i .count) (soughtOf map x) (eqb-true (elementCode (eventEntry l i .code) (eventEntry l i .count) 0) (x .code) (p .0) ∙ sought-code map x)) in
+          and-both (codeSeems (wordAt l (codesAt + i)) (soughtOf map x)) (detailSeems (wordAt l (lowsAt + i)) (soughtOf map x)) c (detail-seems (p .1 .0))
+
+      suits-fits : fitsAfter map limit before (elementOf (eventEntry l i) 0) x ≡ true → suits l i (soughtOf map x) ≡ true
+      unfolding fitsAfter elementOf
+      suits-fits e =
+          let p = chain-parts (eqb (elementCode (eventEntry l i .code) (eventEntry l i .count) 0) (x .code))
+          (eventMeets map (eventEntry l i) x ∷ (not (elementOf (eventEntry l i) 0 .timed) || quick limit before (x .time)) ∷ []) e in
+          suits-state map l i x f (state-part map l i x (p .1 .0))
+
+      -- an event that does not pass does not fit
+      pub fits-suits : suits l i (soughtOf map x) ≡ false → fitsAfter map limit before (elementOf (eventEntry l i) 0) x ≡ false
+      fits-suits q = go (fitsAfter map limit before (elementOf (eventEntry l i) 0) x) refl
+        where
+          go : (t : Bool) → fitsAfter map limit before (elementOf (eventEntry l i) 0) x ≡ t → t ≡ false
+          go true e = absurd (true≢false (sym (suits-fits e) ∙ q))
+          go false e = refl
+
+      pub fits-seems : seems l i (soughtOf map x) ≡ false → fitsAfter map limit before (elementOf (eventEntry l i) 0) x ≡ false
+      fits-seems q = go (fitsAfter map limit before (elementOf (eventEntry l i) 0) x) refl
+        where
+          go : (t : Bool) → fitsAfter map limit before (elementOf (eventEntry l i) 0) x ≡ t → t ≡ false
+          go true e = absurd (true≢false (sym (seems-fits e) ∙ q))
+          go false e = refl
+
+-- ---- A production
+
+module _ (map : List ℕ) (limit : ℕ) (l : List ℕ) (f : TableFacts l) (b : Bytes l) (first n : ℕ) (events : List Event) (from to : ℕ)
+    (long : length events ≡ 25) (room : to ≤ 25) (m : from < to) (o : 1 ≤ n) (w : first + n ≤ eventTotal l)
+    (ranges : (j : ℕ) → j < to → EventRanges (getD events j zeroEvent)) where
+  abbrev x : ℕ → Event
+  x j = getD events j zeroEvent
+
+  -- whether event j fits the first element of event i
+  abbrev fit : ℕ → ℕ → Bool
+  fit i j = fitsAfter map limit (x j .time) (elementOf (eventEntry l i) 0) (x j)
+
+  suits-not : suits l first (soughtOf map (x from)) ≡ false → target map limit l first n events from to ≡ Followed.No
+  suits-not q =
+      let h : first < eventTotal l = omega arith in
+      walks-other map limit l first n events from to long room m o (fit first from) refl
+      (fits-suits map (x from) l b first (f .entry first h) (ranges from m) limit (x from .time) q)
+
+  -- the first event of the stretch does not pass
+  pub seems-not : seems l first (soughtOf map (x from)) ≡ false → target map limit l first n events from to ≡ Followed.No
+  seems-not q =
+      let h : first < eventTotal l = omega arith in
+      walks-other map limit l first n events from to long room m o (fit first from) refl
+      (fits-seems map (x from) l b first (f .entry first h) (ranges from m) limit (x from .time) q)
+
+  single : wordAt l (countsAt + first) ≤ 1 → 0 + 1 ≡ sizeIn l first
+  unfolding sizeIn elementCount
+  single c =
+      let h : first < eventTotal l = omega arith in
+      let e : eventEntry l first .count ≤ 1 = rw (← f .entry first h .countWord) c in
+      rw (le-leb (eventEntry l first .count) 1 e)
+
+  -- the first event of the production is met once, and the second event of the stretch does not pass at the next
+  second-not : wordAt l (countsAt + first) ≤ 1 → from + 1 < to → seems l (first + 1) (soughtOf map (x (from + 1))) ≡ false
+      → target map limit l first n events from to ≡ Followed.No
+  second-not c h q = go (fit first from) refl
+    where
+      less : from ≤ to
+      less = omega arith
+
+      turned : fit first from ≡ true → Walks map limit l first n events from to (first + 1) 0 (from + 1)
+      turned e =
+          let d : first < first + n = omega arith in
+          walks-turn map limit l first n events from to room first 0 from (walks-start map limit l first n events from to long less) d m from
+          (λ z. absurd (omega arith)) (fit first from) refl e (single c)
+
+      more : (t : Bool) → ltb (first + 1) (first + n) ≡ t → fit first from ≡ true → target map limit l first n events from to ≡ Followed.No
+      more true k e =
+          let d : first + 1 < first + n = ltb-true (first + 1) (first + n) k in
+          let i : first + 1 < eventTotal l = omega arith in
+          walks-no map limit l first n events from to room (first + 1) 0 (from + 1) (turned e) d h (from + 1) (λ z. absurd (omega arith))
+          (fit (first + 1) (from + 1)) refl
+          (fits-seems map (x (from + 1)) l b (first + 1) (f .entry (first + 1) i) (ranges (from + 1) h) limit (x (from + 1) .time) q)
+      more false k e =
+          walks-over map limit l first n events from to room (first + 1) 0 (from + 1) (turned e) (ltb-false (first + 1) (first + n) k) h
+
+      go : (t : Bool) → fit first from ≡ t → target map limit l first n events from to ≡ Followed.No
+      go true e = more (ltb (first + 1) (first + n)) refl e
+      go false e = walks-other map limit l first n events from to long room m o (fit first from) refl e
+
+  pub begins-not : mayBegin l (soughtOf map (x from)) first ≡ false → target map limit l first n events from to ≡ Followed.No
+  unfolding mayBegin
+  begins-not q = go (seems l first (soughtOf map (x from))) refl
+    where
+      go : (t : Bool) → seems l first (soughtOf map (x from)) ≡ t → target map limit l first n events from to ≡ Followed.No
+      go false e = seems-not e
+      go true e = suits-not (rw e at q)
+
+  pub pairs-not : (two : Sought) → from + 1 < to → two ≡ soughtOf map (x (from + 1)) → pairs l (soughtOf map (x from)) two first ≡ false
+      → target map limit l first n events from to ≡ Followed.No
+  unfolding pairs
+  pairs-not two h et q = go (seems l first (soughtOf map (x from))) refl
+    where
+      last : (s : Bool) → eqb (wordAt l (countsAt + first)) 1 ≡ s → (not s || seems l (first + 1) two) ≡ false
+          → target map limit l first n events from to ≡ Followed.No
+      last true c r =
+          let d : wordAt l (countsAt + first) ≡ 1 = eqb-true (wordAt l (countsAt + first)) 1 c in
+          second-not (omega arith) h (ap (seems l (first + 1)) (sym et) ∙ r)
+      last false c r = absurd (true≢false r)
+
+      go : (t : Bool) → seems l first (soughtOf map (x from)) ≡ t → target map limit l first n events from to ≡ Followed.No
+      go false e = seems-not e
+      go true e = last (eqb (wordAt l (countsAt + first)) 1) refl (rw e at q)
+
+  -- the code alone is another
+  pub code-not : codeBegins l (soughtOf map (x from)) first ≡ false → target map limit l first n events from to ≡ Followed.No
+  unfolding codeBegins seems
+  code-not q = seems-not (rw q)
+
+-- ---- Where events stand that pass a test
+
+-- what is joined by `|` is at least each of its parts
+or-least-left : (a b : ℕ) → a ≤ bitOr a b
+or-least-left a b = omega (arith, or-add-and a b, and-le-r a b)
+
+or-least-right : (a b : ℕ) → b ≤ bitOr a b
+or-least-right a b = omega (arith, or-add-and a b, and-le-l a b)
+
+module _ (f : ℕ → Bool) where
+  -- of the first n events, the number of each that passes is in the joined one
+  abbrev pub Joined : (ℕ → ℕ) → (n joined : ℕ) → Type 0
+  Joined number n joined = (j : ℕ) → j < n → f j ≡ true → number j ≤ joined
+
+  joined-step : (number : ℕ → ℕ) (i joined : ℕ) → Joined number i joined → (t : Bool) → t ≡ f i → (a : ℕ) → a ≡ cond t (number i) 0
+      → Joined number (i + 1) (bitOr joined a)
+  joined-step number i joined w t e a ea j h q = go (ltb j i) refl
+    where
+      go : (s : Bool) → ltb j i ≡ s → number j ≤ bitOr joined a
+      go true k = omega (arith, w j (ltb-true j i k) q, or-least-left joined a)
+      go false k =
+          let n : i ≤ j = ltb-false j i k in
+          let m : j ≡ i = omega arith in
+          let u : t ≡ true = e ∙ ap f (sym m) ∙ q in
+          let v : a ≡ number i = ea ∙ ap (λ (s : Bool). cond s (number i) 0) u in
+          rw m (omega (arith, or-least-right joined a))
+
+  -- the numbers i + 1
+  abbrev pub Ended : (n high : ℕ) → Type 0
+  Ended = Joined (λ j. j + 1)
+
+  pub ended-start : Ended 0 0
+  ended-start j h e = absurd (omega arith)
+
+  pub ended-step : (i high : ℕ) → Ended i high → (t : Bool) → t ≡ f i → (a : ℕ) → a ≡ cond t (i + 1) 0 → Ended (i + 1) (bitOr high a)
+  ended-step = joined-step (λ j. j + 1)
+
+  pub ended-end : (n m high : ℕ) → Ended n high → n ≡ m → PassersWithin f m 0 high
+  ended-end n m high w e j k q =
+      let p : j < n = omega arith in
+      (omega arith, omega (arith, w j p q))
+
+  -- and the numbers 256 - i
+  abbrev pub Noted : (n high turned : ℕ) → Type 0
+  Noted n high turned = Ended n high × Joined (λ j. 256 - j) n turned
+
+  pub noted-start : Noted 0 0 0
+  noted-start = (ended-start, λ j h e. absurd (omega arith))
+
+  pub noted-step : (i high turned : ℕ) → Noted i high turned → (t : Bool) → t ≡ f i → (a b : ℕ) → a ≡ cond t (i + 1) 0
+      → b ≡ cond t (256 - i) 0 → Noted (i + 1) (bitOr high a) (bitOr turned b)
+  noted-step i high turned w t e a b ea eb =
+      (ended-step i high (w .0) t e a ea, joined-step (λ j. 256 - j) i turned (w .1) t e b eb)
+
+  pub noted-end : (n m high turned low : ℕ) → Noted n high turned → n ≡ m → low ≤ 256 - turned → PassersWithin f m low high
+  noted-end n m high turned low w e h j k q =
+      let p : j < n = omega arith in
+      (omega (arith, w .1 j p q), omega (arith, w .0 j p q))
+
+-- an event that does not stand there begins no production along which the stretch reads as a prefix
+pub outside-of : (l map : List ℕ) (events : List Event) (from to : ℕ) (f : ℕ → Bool)
+    → ((limit first n : ℕ) → 1 ≤ n → first + n ≤ eventTotal l → f first ≡ false → target map limit l first n events from to ≡ Followed.No)
+    → (low high : ℕ) → PassersWithin f (eventTotal l) low high → Outside l map (drop from (take to events)) low high
+outside-of l map events from to f none-there low high w =
+    record {
+      before = λ limit first n o b h. none-there limit first n o b (out first (omega arith) (λ d. absurd (omega (arith, d .0))));
+      after = λ limit first n o b h. none-there limit first n o b (out first (omega arith) (λ d. absurd (omega (arith, d .1))));
+    }
+  where
+    out : (i : ℕ) → i < eventTotal l → ((low ≤ i) × (i < high) → f i ≡ false) → f i ≡ false
+    out i h k = go (f i) refl
+      where
+        go : (t : Bool) → f i ≡ t → f i ≡ false
+        go true e = k (w i h e)
+        go false e = e
+
+module _ (map l : List ℕ) (f : TableFacts l) (b : Bytes l) (events : List Event) (from to : ℕ) (long : length events ≡ 25) (room : to ≤ 25)
+    (m : from < to) (ranges : (j : ℕ) → j < to → EventRanges (getD events j zeroEvent)) (one : Sought)
+    (eo : one ≡ soughtOf map (getD events from zeroEvent)) (low high : ℕ) where
+  pub outside-code : PassersWithin (codeBegins l one) (eventTotal l) low high → Outside l map (drop from (take to events)) low high
+  outside-code =
+      outside-of l map events from to (codeBegins l one)
+      (λ limit first n o w q. code-not map limit l f b first n events from to long room m o w ranges (ap (λ (s : Sought). codeBegins l s first) (sym eo) ∙ q))
+      low high
+
+  pub outside-begins : PassersWithin (mayBegin l one) (eventTotal l) low high → Outside l map (drop from (take to events)) low high
+  outside-begins =
+      outside-of l map events from to (mayBegin l one)
+      (λ limit first n o w q. begins-not map limit l f b first n events from to long room m o w ranges (ap (λ (s : Sought). mayBegin l s first) (sym eo) ∙ q))
+      low high
+
+  pub outside-pairs : (two : Sought) → from + 1 < to → two ≡ soughtOf map (getD events (from + 1) zeroEvent)
+      → PassersWithin (pairs l one two) (eventTotal l) low high → Outside l map (drop from (take to events)) low high
+  outside-pairs two h et =
+      outside-of l map events from to (pairs l one two)
+      (λ limit first n o w q. pairs-not map limit l f b first n events from to long room m o w ranges two h et (ap (λ (s : Sought). pairs l s two first) (sym eo) ∙ q))
+      low high

@@ -1,0 +1,67 @@
+-- How a stretch of events is walked along the elements of a production. walk's proofs/PassLaws shows that this comes to
+-- model's `readsAsPrefix` and `isWholeSequence`.
+use Prim.Native.Nat.{ℕ, _≤_, _<_}
+use mathlib.Core.Path.{_≡_}
+use mathlib.Core.Bool.{Bool, true, cond, not, _&&_, _||_}
+use mathlib.Core.List.{List, [], _∷_}
+use mathlib.Core.Option.{Option, some}
+use lib.Dec.{eqb, leb}
+use lib.ListN.{length, getD}
+use Rattle.model.specs.Keyboard.{firstKeysym, secondKeysym}
+use Rattle.model.specs.Modifiers.{stateMeets}
+use Rattle.model.specs.Counts.{Element, element, quick}
+use Rattle.model.specs.Matching.{detailMet, fits}
+use Rattle.model.specs.declared.events.Event.{Event}
+use Rattle.model.specs.declared.events.KeptEvent.{KeptEvent}
+use Rattle.counts.specs.Elements.{elementCount, elementCode, isTimed}
+use Rattle.keyboard.specs.Pairs.{pairAsked}
+use Rattle.tables.specs.Reading.{eventEntry}
+use Rattle.tables.specs.Whole.{whole}
+use Rattle.records.specs.Ranges.{EventRanges}
+use Rattle.states.specs.State.{zeroEvent, slotsOf}
+use Rattle.follow.specs.declared.Followed.{Followed}
+
+-- ---- One event
+
+-- modifiers and detail
+unfoldable pub eventMeets : List ℕ → KeptEvent → Event → Bool
+eventMeets map e x = stateMeets (e .set) (e .clear) (e .clause) (x .state) && detailMet map e (e .detail) x
+
+-- the same of a given detail, by the numbers that a table holds
+unfoldable pub detailAsked : List ℕ → (set clear : ℕ) (colon : Bool) (value : ℕ) → Event → Bool
+detailAsked map set clear colon value x =
+    cond (leb (x .code) 3)
+    (pairAsked set clear colon (firstKeysym map (x .detail)) (secondKeysym map (x .detail)) (x .state) value)
+    (eqb (x .detail) value)
+
+-- element k of an event
+unfoldable pub elementOf : KeptEvent → ℕ → Element
+elementOf e k = element (elementCode (e .code) (e .count) k) (isTimed (e .code) (e .count) k) e
+
+-- the element fits an event, where `before` is the time of the event two before it in the stretch
+unfoldable pub fitsAfter : List ℕ → ℕ → ℕ → Element → Event → Bool
+fitsAfter map limit before el x =
+    eqb (el .code) (x .code) && eventMeets map (el .event) x && (not (el .timed) || quick limit before (x .time))
+
+-- ---- One production
+
+-- what the walk comes to; the events two and one before the stretch are given
+unfoldable pub walked : List ℕ → ℕ → Option Event → Option Event → List Element → List Event → Followed
+walked map limit twoBefore oneBefore [] [] = Followed.Whole
+walked map limit twoBefore oneBefore (el ∷ els) [] = Followed.Prefix
+walked map limit twoBefore oneBefore [] (x ∷ xs) = Followed.No
+walked map limit twoBefore oneBefore (el ∷ els) (x ∷ xs) =
+    cond (fits map limit twoBefore el x) (walked map limit oneBefore (some x) els xs) Followed.No
+
+-- how many elements event i has
+unfoldable pub sizeIn : List ℕ → ℕ → ℕ
+sizeIn l i = elementCount (eventEntry l i .code) (eventEntry l i .count)
+
+-- what the walk may rely on: a whole table, a keyboard map of the right length, and events as they are read, in the slots
+-- that these bytes are
+pub record WalkReady (l map bytes : List ℕ) (to : ℕ) : Type 0 where
+  pub isWhole : whole l ≡ true
+  pub mapped : length map ≡ 496
+  pub long : length bytes ≡ 200
+  pub room : to ≤ 25
+  pub ranges : (j : ℕ) → j < to → EventRanges (getD (slotsOf bytes) j zeroEvent)

@@ -1,0 +1,19 @@
+-- The bits that some tables test, by computation.
+use mathlib.Core.Path.{refl}
+use Rattle.model.specs.Bytes.{isAllowed, firstBadByte, isBlank, isDigit, isLetter, belongs, runEnd, skip}
+use Rattle.model.specs.Lines.{lineEnd, lineAt, isBlankLine, directiveOf, directiveAt}
+use Rattle.model.specs.Names.{modifierEntries, modifierNamed, protocolEntries, synonymEntries, abbreviationEntries, typeEntries, typeNamed}
+use Rattle.model.specs.Details.{digitValue, digitsFrom, numberIn, keysymEntries, keyDetail, buttonEntries, motionEntries, modeEntries, requestEntries, smallNumber, nameOrNumber, detailNamed}
+use Rattle.model.specs.Events.{keysymFrom, nameFrom, modifierNameAt, modifierFrom, modifierAt, modifiersFrom, leadColon, leadFrom, leadAt, listOf, typeFrom, typeRun, typeName, typeAt, countClose, countPlus, countRun, countDigits, countFrom, countAt, plainEventAt, markedKey, keyAt, keysFrom, keySequenceAt, eventsFrom, eventsAt, afterEventFrom, afterEventAt, leftFrom, leftSide}
+use Rattle.model.specs.Calls.{parameterEnd, quotedFrom, unquotedFrom, parameterFrom, parameterAt, parametersFrom, parametersPast, parametersAt, callNameFrom, callFrom, callAt, callsFrom, rightSide}
+use Rattle.model.specs.Modifiers.{mask, listsSet, listsClear, asksSet, asksClear, setMask, clearMask, keepsClause, noStateMeets}
+use Rattle.model.specs.Counts.{releasePress, pressRelease, elementsAt, elementsOf, expanded, sequence}
+use Rattle.model.specs.Judging.{detailOf, keptDetail, keptEvent, eventNumber, judgedWritten, judged}
+use Rattle.model.specs.Compiling.{productionPasses, totalsPass, passesLimit, lineRead, judgedAll, lineOutcome, linesFrom, linesOf, compiled}
+use Rattle.model.specs.Asked.{asked}
+use Rattle.model.specs.Matching.{eventTests, tests}
+use Rattle.model.specs.TestedExamples.{AllTested, testedExamples}
+
+pub examples-tested : AllTested testedExamples
+unfolding isAllowed firstBadByte isBlank isDigit isLetter belongs runEnd skip lineEnd lineAt isBlankLine directiveOf directiveAt modifierEntries modifierNamed protocolEntries synonymEntries abbreviationEntries typeEntries typeNamed digitValue digitsFrom numberIn keysymEntries keyDetail buttonEntries motionEntries modeEntries requestEntries smallNumber nameOrNumber detailNamed keysymFrom nameFrom modifierNameAt modifierFrom modifierAt modifiersFrom leadColon leadFrom leadAt listOf typeFrom typeRun typeName typeAt countClose countPlus countRun countDigits countFrom countAt plainEventAt markedKey keyAt keysFrom keySequenceAt eventsFrom eventsAt afterEventFrom afterEventAt leftFrom leftSide parameterEnd quotedFrom unquotedFrom parameterFrom parameterAt parametersFrom parametersPast parametersAt callNameFrom callFrom callAt callsFrom rightSide mask listsSet listsClear asksSet asksClear setMask clearMask keepsClause noStateMeets releasePress pressRelease elementsAt elementsOf expanded sequence detailOf keptDetail keptEvent eventNumber judgedWritten judged productionPasses totalsPass passesLimit lineRead judgedAll lineOutcome linesFrom linesOf compiled asked eventTests tests testedExamples
+examples-tested = refl

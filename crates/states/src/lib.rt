@@ -1,0 +1,114 @@
+// The matcher's state, by value. Between calls it keeps the events of the open context and nothing else.
+ghost use mathlib.Core.Path.{_≡_};
+ghost use Prim.Native.Nat.{_+_, _*_, _-_, _≤_};
+ghost use lib.ListN.{length};
+ghost use Rattle.states.specs.State.{eventWhole, usedWhole, byteZero, slotsWhole, marksWhole, wholeState, freshState};
+ghost use Rattle.words.specs.Runs.{every};
+use model::events::Event;
+
+pub mod slots;
+
+pub struct State {
+    // How many events the context has.
+    pub kept: usize,
+    // How many of them lie at or before the last event at which anything was selected.
+    pub selected: usize,
+    pub open: bool,
+    // 25 slots of 8 bytes, one slot more than a context keeps: code, detail, state and time, the least significant byte
+    // first. Those that are not used are zero, so that equal contexts are equal states.
+    pub events: [u8; 200],
+}
+
+impl State {
+    // The limits of a table, and of a context.
+    pub const TEXT_BYTES: usize = 8192;
+
+    pub const PRODUCTIONS: usize = 64;
+
+    pub const PRODUCTION_EVENTS: usize = 24;
+
+    pub const EVENTS: usize = 256;
+
+    pub const PRODUCTION_CALLS: usize = 8;
+
+    pub const CALLS: usize = 128;
+
+    pub const CALL_PARAMETERS: usize = 8;
+
+    pub const PARAMETERS: usize = 256;
+
+    pub const CONTEXT_EVENTS: usize = 24;
+
+    // No events: all zero.
+    pub fn fresh() -> State
+        ensures { λ r. ⌜ r ≡ freshState ⌝ }
+    {
+        State {
+            kept: 0,
+            selected: 0,
+            open: false,
+            events: [0; 200],
+        }
+    }
+}
+
+// An event with the ranges of one that was read from a record.
+fn event_whole(e: Event) -> bool
+    ensures { λ r. ⌜ r ≡ eventWhole e ⌝ }
+{
+    (2 <= e.code) & (e.code <= 34) & (e.state < 8192) & ((3 < e.code) | (8 <= e.detail))
+}
+
+// Whether every slot of the context holds such an event.
+fn used_whole(events: &[u8], kept: usize) -> bool
+    requires { ⌜ 8 * kept ≤ length (now events) ⌝ }
+    ensures { λ r. ⌜ r ≡ every (usedWhole (now (events .entry))) 0 kept ⌝ }
+{
+    let mut whole = true;
+    let mut i: usize = 0;
+    while i < kept {
+        whole = whole & event_whole(slots::event_at(events, i));
+        i += 1;
+    }
+    whole
+}
+
+// Whether n bytes from byte k on are zero. No early exit, so that the loop is compiled to vector instructions.
+fn bytes_zero(l: &[u8], k: usize, n: usize) -> bool
+    requires { ⌜ k + n ≤ length (now l) ⌝ }
+    ensures { λ r. ⌜ r ≡ every (byteZero (now (l .entry))) k n ⌝ }
+{
+    let mut clean = true;
+    let mut i: usize = 0;
+    while i < n {
+        clean = clean & (l[k + i] == 0);
+        i += 1;
+    }
+    clean
+}
+
+// Every slot holds an event of the context or, past them, zero.
+fn slots_whole(events: &[u8], kept: usize) -> bool
+    requires { ⌜ (length (now events) ≡ 200) × (kept ≤ 24) ⌝ }
+    ensures { λ r. ⌜ r ≡ slotsWhole (now (events .entry)) kept ⌝ }
+{
+    used_whole(events, kept) & bytes_zero(events, 8 * kept, 200 - 8 * kept)
+}
+
+fn marks_whole(kept: usize, selected: usize, open: bool) -> bool
+    ensures { λ r. ⌜ r ≡ marksWhole kept selected «open» ⌝ }
+{
+    let empty = kept == 0;
+    (kept <= State::CONTEXT_EVENTS) & (selected <= kept) & ((open & !empty) | (!open & empty))
+}
+
+// Whether a state is one that a call leaves.
+pub fn state_whole(s: State) -> bool
+    ensures { λ r. ⌜ r ≡ wholeState s ⌝ }
+{
+    let kept = s.kept;
+    if !marks_whole(kept, s.selected, s.open) {
+        return false;
+    }
+    slots_whole(&s.events, kept)
+}
