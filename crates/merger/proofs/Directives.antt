@@ -1,63 +1,28 @@
--- The tally and the copies of a merge, for each directive of the new table.
-use Prim.Native.Nat.{ℕ, _≤_}
-use native.Mathlib.Omega.{arith}
+-- The copies of a merge, for each directive of the new table, and that there is room for them.
+use Prim.Native.Nat.{ℕ}
 use mathlib.Core.Path.{_≡_, subst}
 use mathlib.Core.Bool.{true, false}
 use mathlib.Core.List.{List}
 use Rattle.model.specs.declared.events.Directive.{Directive}
 use Rattle.tables.specs.Reading.{productionTotal, directiveIn}
-use Rattle.tables.specs.Whole.{whole}
-use Rattle.merger.specs.Kept.{keptFrom}
-use Rattle.merger.specs.Counting.{noTally, tallyAll, tallyBy, tallyMerged, TallyBelow, TallyRoom}
+use Rattle.tally.specs.Kept.{keptFrom}
+use Rattle.tally.specs.Counting.{noTally, tallyAll, tallyMerged, TallyRoom}
 use Rattle.merger.specs.Copying.{putAll, putBy}
-use Rattle.merger.specs.declared.count.Tally.{Tally}
-use Rattle.merger.proofs.Tallies.{kept-below, all-room}
-
-below-more : (a b : ℕ) (t : Tally) → a ≤ b → TallyBelow a t → TallyBelow b t
-below-more a b t h r =
-    record {
-      productions = omega (arith, r .productions);
-      events = omega (arith, r .events);
-      expanded = omega (arith, r .expanded);
-      calls = omega (arith, r .calls);
-      parameters = omega (arith, r .parameters);
-    }
-
-none-below : TallyBelow 0 noTally
-none-below = record { productions = omega arith; events = omega arith; expanded = omega arith; calls = omega arith; parameters = omega arith }
-
--- ---- No count is large
-
-module _ (l : List ℕ) (w : whole l ≡ true) (other : List ℕ) (n : ℕ) where
-  pub first-below : TallyBelow 10000 (tallyAll noTally (keptFrom l 0 other n))
-  first-below = below-more 256 10000 (tallyAll noTally (keptFrom l 0 other n)) (omega arith) (kept-below l w other n 0 noTally none-below)
-
-  pub second-below : (m : List ℕ) → whole m ≡ true → (o : List ℕ) (k : ℕ)
-      → TallyBelow 10000 (tallyAll (tallyAll noTally (keptFrom l 0 other n)) (keptFrom m 0 o k))
-  second-below m v o k =
-      below-more 512 10000 (tallyAll (tallyAll noTally (keptFrom l 0 other n)) (keptFrom m 0 o k)) (omega arith)
-      (kept-below m v o k 256 (tallyAll noTally (keptFrom l 0 other n)) (kept-below l w other n 0 noTally none-below))
+use Rattle.tally.specs.declared.count.Tally.{Tally}
+use Rattle.tally.proofs.Tallies.{all-room}
+use Rattle.tally.proofs.Directives.{replace-tally, override-tally, augment-tally}
 
 module _ (old new : List ℕ) where
   -- ---- Replace
-
-  pub replace-tally : directiveIn new ≡ Directive.Replace → tallyMerged old new ≡ tallyAll noTally (keptFrom new 0 old 0)
-  unfolding tallyMerged tallyBy
-  replace-tally e = rw e
 
   pub replace-put : (out : List ℕ) → directiveIn new ≡ Directive.Replace → putBy (directiveIn new) old new out ≡ putAll true out noTally (keptFrom new 0 old 0)
   unfolding putBy
   replace-put out e = rw e
 
   pub replace-room : directiveIn new ≡ Directive.Replace → TallyRoom (tallyMerged old new) → TallyRoom (tallyAll noTally (keptFrom new 0 old 0))
-  replace-room e r = subst (λ (t : Tally). TallyRoom t) (replace-tally e) r
+  replace-room e r = subst (λ (t : Tally). TallyRoom t) (replace-tally old new e) r
 
   -- ---- Override
-
-  pub override-tally : directiveIn new ≡ Directive.Override
-      → tallyMerged old new ≡ tallyAll (tallyAll noTally (keptFrom new 0 old 0)) (keptFrom old 0 new (productionTotal new))
-  unfolding tallyMerged tallyBy
-  override-tally e = rw e
 
   pub override-put : (out : List ℕ) → directiveIn new ≡ Directive.Override
       → putBy (directiveIn new) old new out
@@ -67,17 +32,12 @@ module _ (old new : List ℕ) where
 
   pub override-room : directiveIn new ≡ Directive.Override → TallyRoom (tallyMerged old new)
       → TallyRoom (tallyAll (tallyAll noTally (keptFrom new 0 old 0)) (keptFrom old 0 new (productionTotal new)))
-  override-room e r = subst (λ (t : Tally). TallyRoom t) (override-tally e) r
+  override-room e r = subst (λ (t : Tally). TallyRoom t) (override-tally old new e) r
 
   pub override-first : directiveIn new ≡ Directive.Override → TallyRoom (tallyMerged old new) → TallyRoom (tallyAll noTally (keptFrom new 0 old 0))
   override-first e r = all-room (tallyAll noTally (keptFrom new 0 old 0)) (keptFrom old 0 new (productionTotal new)) (override-room e r)
 
   -- ---- Augment
-
-  pub augment-tally : directiveIn new ≡ Directive.Augment
-      → tallyMerged old new ≡ tallyAll (tallyAll noTally (keptFrom old 0 new 0)) (keptFrom new 0 old (productionTotal old))
-  unfolding tallyMerged tallyBy
-  augment-tally e = rw e
 
   pub augment-put : (out : List ℕ) → directiveIn new ≡ Directive.Augment
       → putBy (directiveIn new) old new out
@@ -87,7 +47,7 @@ module _ (old new : List ℕ) where
 
   pub augment-room : directiveIn new ≡ Directive.Augment → TallyRoom (tallyMerged old new)
       → TallyRoom (tallyAll (tallyAll noTally (keptFrom old 0 new 0)) (keptFrom new 0 old (productionTotal old)))
-  augment-room e r = subst (λ (t : Tally). TallyRoom t) (augment-tally e) r
+  augment-room e r = subst (λ (t : Tally). TallyRoom t) (augment-tally old new e) r
 
   pub augment-first : directiveIn new ≡ Directive.Augment → TallyRoom (tallyMerged old new) → TallyRoom (tallyAll noTally (keptFrom old 0 new 0))
   augment-first e r = all-room (tallyAll noTally (keptFrom old 0 new 0)) (keptFrom new 0 old (productionTotal old)) (augment-room e r)

@@ -1,4 +1,4 @@
--- One production further in the loops over the productions of a table.
+-- One production further in the loop that copies the productions of a table.
 use Prim.Native.Nat.{ℕ, _+_, _≤_, _<_}
 use mathlib.Core.Path.{_≡_, refl, ap, _∙_}
 use mathlib.Core.Bool.{Bool, true, false, cond, not}
@@ -6,17 +6,12 @@ use mathlib.Core.List.{List, _∷_}
 use Rattle.model.specs.Tables.{Production}
 use Rattle.model.specs.Merging.{isAmong}
 use Rattle.tables.specs.Reading.{productionTotal, productionEntry}
-use Rattle.merger.specs.Kept.{firstOf, keptFrom}
-use Rattle.merger.specs.Counting.{tallyOne, tallyAll, TallyRoom}
+use Rattle.tally.specs.Kept.{firstOf, keptFrom}
+use Rattle.tally.specs.Counting.{tallyOne, tallyAll, TallyRoom}
 use Rattle.merger.specs.Copying.{putOne, putAll}
-use Rattle.merger.specs.declared.count.Tally.{Tally}
-use Rattle.merger.proofs.Steps.{kept-next, kept-done}
-use Rattle.merger.proofs.Tallies.{first-room}
-
-cond-tally : (k : Bool) (t : Tally) (p : Production) (ps : List Production) → tallyAll t (cond k (p ∷ ps) ps) ≡ tallyAll (cond k (tallyOne t p) t) ps
-unfolding tallyAll
-cond-tally true t p ps = refl
-cond-tally false t p ps = refl
+use Rattle.tally.specs.declared.count.Tally.{Tally}
+use Rattle.tally.proofs.Steps.{kept-next, kept-done}
+use Rattle.tally.proofs.Tallies.{first-room}
 
 cond-put : (k s : Bool) (out : List ℕ) (t : Tally) (p : Production) (ps : List Production)
     → putAll s out t (cond k (p ∷ ps) ps) ≡ putAll s (cond k (putOne s out t p) out) (cond k (tallyOne t p) t) ps
@@ -31,11 +26,6 @@ module _ (l : List ℕ) (p : ℕ) (other : List ℕ) (n : ℕ) (h : p < producti
   abbrev keep : Bool
   keep = not (isAmong (firstOf other n) (productionEntry l p))
 
-  pub tally-next : (t : Tally)
-      → tallyAll t (keptFrom l p other n)
-      ≡ tallyAll (cond (not (isAmong (firstOf other n) (productionEntry l p))) (tallyOne t (productionEntry l p)) t) (keptFrom l (p + 1) other n)
-  tally-next t = ap (tallyAll t) (kept-next l p other n h) ∙ cond-tally keep t (productionEntry l p) (keptFrom l (p + 1) other n)
-
   pub put-next : (s : Bool) (out : List ℕ) (t : Tally)
       → putAll s out t (keptFrom l p other n)
       ≡ putAll s (cond (not (isAmong (firstOf other n) (productionEntry l p))) (putOne s out t (productionEntry l p)) out)
@@ -48,10 +38,6 @@ module _ (l : List ℕ) (p : ℕ) (other : List ℕ) (n : ℕ) (h : p < producti
   room-next t r e = cond-room keep t (productionEntry l p) (keptFrom l (p + 1) other n) (rw (kept-next l p other n h) at r) e
 
 module _ (l : List ℕ) (p : ℕ) (other : List ℕ) (n : ℕ) (h : productionTotal l ≤ p) where
-  pub tally-done : (t : Tally) → tallyAll t (keptFrom l p other n) ≡ t
-  unfolding tallyAll
-  tally-done t = rw (kept-done l p other n h)
-
   pub put-done : (s : Bool) (out : List ℕ) (t : Tally) → putAll s out t (keptFrom l p other n) ≡ out
   unfolding putAll
   put-done s out t = rw (kept-done l p other n h)

@@ -1,9 +1,5 @@
-pub mod Steps
-pub mod WholeFacts
-pub mod Tallies
-pub mod ElementSizes
 pub mod Puts
-pub mod Extents
+pub mod ProductionPuts
 pub mod KeptSteps
 pub mod Pieces
 pub mod Totals

@@ -5,7 +5,7 @@ use mathlib.Core.Path.{_≡_}
 use mathlib.Core.List.{List}
 use Rattle.words.specs.Runs.{run}
 use Rattle.merger.specs.Copying.{puts}
-use Rattle.merger.proofs.Steps.{run-step, run-done, run-start}
+use Rattle.tally.proofs.Steps.{run-step, run-done, run-start}
 
 module _ {A : Type 0} (put : List ℕ → ℕ → A → List ℕ) (f : ℕ → A) (from at n : ℕ) (l : List ℕ) where
   pub puts-start : puts put l at (run f from n) ≡ puts put l (at + 0) (run f (from + 0) (n - 0))

@@ -8,9 +8,9 @@ use Rattle.model.specs.declared.events.Directive.{Directive}
 use Rattle.tables.specs.Layout.{allParameters}
 use Rattle.tables.specs.Reading.{productionTotal, directiveIn, firstLengthIn}
 use Rattle.tables.specs.Writing.{putEvent, putCall, putParameter, putProduction, putTexts, putCounts}
-use Rattle.merger.specs.Kept.{keptFrom}
-use Rattle.merger.specs.Counting.{noTally, tallyOne, tallyAll, tallyMerged}
-use Rattle.merger.specs.declared.count.Tally.{Tally}
+use Rattle.tally.specs.Kept.{keptFrom}
+use Rattle.tally.specs.Counting.{noTally, tallyOne, tallyAll, tallyMerged}
+use Rattle.tally.specs.declared.count.Tally.{Tally}
 
 module _ {A : Type 0} where
   -- entries one after the other, the first at a place

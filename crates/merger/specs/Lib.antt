@@ -1,4 +1,3 @@
 pub mod Merge
-pub mod Kept
-pub mod Counting
+pub mod Results
 pub mod Copying

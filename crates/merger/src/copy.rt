@@ -1,9 +1,9 @@
 // Productions copied from a table, after those that stand in the output.
-use crate::compare::is_among;
-use crate::count::Tally;
-use crate::count::extent_of;
-use crate::count::tally_one;
 use model::events::Directive;
+use tally::compare::is_among;
+use tally::count::Tally;
+use tally::count::extent_of;
+use tally::count::tally_one;
 ghost use mathlib.Core.Path.{_≡_};
 ghost use mathlib.Core.Bool.{true, cond};
 ghost use Prim.Native.Nat.{_+_, _≤_, _<_};
@@ -12,8 +12,8 @@ ghost use Rattle.words.specs.Runs.{run};
 ghost use Rattle.tables.specs.Reading.{productionTotal, callTotal, parameterTotal, eventEntry, callEntry, parameterEntry, productionEntry, directiveIn};
 ghost use Rattle.tables.specs.Writing.{putEvent, putParameter};
 ghost use Rattle.tables.specs.Whole.{whole};
-ghost use Rattle.merger.specs.Kept.{keptFrom};
-ghost use Rattle.merger.specs.Counting.{tallyOne, tallyAll, tallyMerged, TallyRoom};
+ghost use Rattle.tally.specs.Kept.{keptFrom};
+ghost use Rattle.tally.specs.Counting.{tallyOne, tallyAll, tallyMerged, TallyRoom};
 ghost use Rattle.merger.specs.Copying.{puts, putCallIn, putOne, putAll, putBy, putMerged};
 ghost use Rattle.tables.specs.Layout.{tableLength};
 

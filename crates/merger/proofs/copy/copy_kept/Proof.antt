@@ -7,12 +7,13 @@ use mathlib.Core.Bool.{Bool, not, cond}
 use lib.ListN.{length}
 use Rattle.tables.specs.Reading.{productionTotal, productionEntry}
 use Rattle.tables.specs.Whole.{whole}
-use Rattle.merger.proofs.WholeFacts as facts
-use Rattle.merger.specs.Counting.{tallyOne, tallyAll, TallyRoom}
-use Rattle.merger.specs.declared.count.Tally.{Tally}
-use Rattle.merger.specs.Kept.{firstOf, keptFrom}
+use Rattle.tally.proofs.WholeFacts as facts
+use Rattle.tally.specs.Counting.{tallyOne, tallyAll, TallyRoom}
+use Rattle.tally.specs.declared.count.Tally.{Tally}
+use Rattle.tally.specs.Kept.{firstOf, keptFrom}
 use Rattle.merger.specs.Copying.{putOne, putAll}
-use Rattle.merger.proofs.KeptSteps.{tally-next, put-next, room-next, tally-done, put-done}
+use Rattle.tally.proofs.TallySteps.{tally-next, tally-done}
+use Rattle.merger.proofs.KeptSteps.{put-next, room-next, put-done}
 use Rattle.model.specs.Merging.{isAmong}
 use Rattle.merger.proofs.copy.copy_kept.Statement.{statement}
 use Rattle.merger.proofs.copy.copy_kept.Tie as tie

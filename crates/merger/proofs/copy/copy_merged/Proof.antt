@@ -3,8 +3,9 @@ use borrow.Author.Needs.{needs}
 use native.Mathlib.Omega.{arith}
 use mathlib.Core.Path.{_≡_, sym, _∙_}
 use Rattle.tables.specs.Reading.{directiveIn}
-use Rattle.merger.proofs.WholeFacts as facts
+use Rattle.tally.proofs.WholeFacts as facts
 use Rattle.model.specs.declared.events.Directive.{Directive}
+use Rattle.tally.proofs.Directives.{replace-tally, override-tally, augment-tally}
 use Rattle.merger.proofs.Directives as by
 use Rattle.merger.proofs.copy.copy_merged.Statement.{statement}
 use Rattle.merger.proofs.copy.copy_merged.Tie as tie
@@ -70,7 +71,7 @@ returns c =
     let o = c .before .before .before .before .before .before .before .before .before .before .args .old .now in
     let n = c .before .before .before .before .before .before .before .before .before .before .args .new .now in
     let D : directiveIn n ≡ Directive.Replace = sym (c .before .before .before .before .before .before .directive .ensures) ∙ c .before .before .before .before .enum-told .given .1 in
-    (c .before .before .copy-kept .ensures .0 ∙ sym (by.replace-tally o n D), c .before .before .copy-kept .ensures .1 ∙ sym (by.replace-put o n (c .before .before .before .before .before .before .before .before .before .before .args .out .now) D))
+    (c .before .before .copy-kept .ensures .0 ∙ sym (replace-tally o n D), c .before .before .copy-kept .ensures .1 ∙ sym (by.replace-put o n (c .before .before .before .before .before .before .before .before .before .before .args .out .now) D))
 
 same-length-2 : tie.Need-same-length-2
 same-length-2 c = search needs
@@ -80,7 +81,7 @@ returns-2 c =
     let o = c .before .before .before .before .before .before .before .before .before .before .before .before .before .before .before .args .old .now in
     let n = c .before .before .before .before .before .before .before .before .before .before .before .before .before .before .before .args .new .now in
     let D : directiveIn n ≡ Directive.Override = sym (c .before .before .before .before .before .before .before .before .before .before .before .directive .ensures) ∙ c .before .before .before .before .before .before .before .before .before .enum-told2 .given .1 in
-    (c .before .before .copy-kept3 .ensures .0 ∙ rw (c .before .before .before .before .before .before .before .copy-kept2 .ensures .0, c .before .before .before .before .production-count .ensures) (sym (by.override-tally o n D)), c .before .before .copy-kept3 .ensures .1 ∙ rw (c .before .before .before .before .before .before .before .copy-kept2 .ensures .1, c .before .before .before .before .before .before .before .copy-kept2 .ensures .0, c .before .before .before .before .production-count .ensures) (sym (by.override-put o n (c .before .before .before .before .before .before .before .before .before .before .before .before .before .before .before .args .out .now) D)))
+    (c .before .before .copy-kept3 .ensures .0 ∙ rw (c .before .before .before .before .before .before .before .copy-kept2 .ensures .0, c .before .before .before .before .production-count .ensures) (sym (override-tally o n D)), c .before .before .copy-kept3 .ensures .1 ∙ rw (c .before .before .before .before .before .before .before .copy-kept2 .ensures .1, c .before .before .before .before .before .before .before .copy-kept2 .ensures .0, c .before .before .before .before .production-count .ensures) (sym (by.override-put o n (c .before .before .before .before .before .before .before .before .before .before .before .before .before .before .before .args .out .now) D)))
 
 same-length-3 : tie.Need-same-length-3
 same-length-3 c = search needs
@@ -90,7 +91,7 @@ returns-3 c =
     let o = c .before .before .before .before .before .before .before .before .before .before .before .before .before .before .before .args .old .now in
     let n = c .before .before .before .before .before .before .before .before .before .before .before .before .before .before .before .args .new .now in
     let D : directiveIn n ≡ Directive.Augment = sym (c .before .before .before .before .before .before .before .before .before .before .before .directive .ensures) ∙ c .before .before .before .before .before .before .before .before .before .enum-told3 .given .1 in
-    (c .before .before .copy-kept5 .ensures .0 ∙ rw (c .before .before .before .before .before .before .before .copy-kept4 .ensures .0, c .before .before .before .before .production-count2 .ensures) (sym (by.augment-tally o n D)), c .before .before .copy-kept5 .ensures .1 ∙ rw (c .before .before .before .before .before .before .before .copy-kept4 .ensures .1, c .before .before .before .before .before .before .before .copy-kept4 .ensures .0, c .before .before .before .before .production-count2 .ensures) (sym (by.augment-put o n (c .before .before .before .before .before .before .before .before .before .before .before .before .before .before .before .args .out .now) D)))
+    (c .before .before .copy-kept5 .ensures .0 ∙ rw (c .before .before .before .before .before .before .before .copy-kept4 .ensures .0, c .before .before .before .before .production-count2 .ensures) (sym (augment-tally o n D)), c .before .before .copy-kept5 .ensures .1 ∙ rw (c .before .before .before .before .before .before .before .copy-kept4 .ensures .1, c .before .before .before .before .before .before .before .copy-kept4 .ensures .0, c .before .before .before .before .production-count2 .ensures) (sym (by.augment-put o n (c .before .before .before .before .before .before .before .before .before .before .before .before .before .before .before .args .out .now) D)))
 
 pub copy-merged-spec : {M : Type 1} → statement M
 copy-merged-spec =

@@ -8,7 +8,7 @@ use lib.ListN.{length}
 use Rattle.words.specs.Runs.{run}
 use Rattle.tables.specs.Reading.{parameterTotal, parameterEntry}
 use Rattle.tables.specs.Whole.{whole}
-use Rattle.merger.proofs.WholeFacts as facts
+use Rattle.tally.proofs.WholeFacts as facts
 use Rattle.merger.specs.Copying.{puts}
 use Rattle.tables.specs.Writing.{putParameter}
 use Rattle.merger.proofs.Puts.{puts-start, puts-next, puts-done}

@@ -3,10 +3,11 @@ use borrow.Author.Needs.{needs}
 use native.Mathlib.Omega.{arith}
 use mathlib.Core.Path.{_≡_}
 use Rattle.tables.specs.Reading.{productionEntry}
-use Rattle.merger.proofs.WholeFacts as facts
-use Rattle.merger.specs.Counting.{extentAt}
-use Rattle.merger.proofs.Extents as ext
-use Rattle.merger.proofs.Tallies.{one-room, room-below}
+use Rattle.tally.proofs.WholeFacts as facts
+use Rattle.tally.specs.Counting.{extentAt}
+use Rattle.tally.proofs.Extents as ext
+use Rattle.merger.proofs.ProductionPuts as puts
+use Rattle.tally.proofs.Tallies.{one-room, room-below}
 use Rattle.merger.proofs.copy.copy_production.Statement.{statement}
 use Rattle.merger.proofs.copy.copy_production.Tie as tie
 
@@ -23,7 +24,7 @@ copy-events-requires c κs =
     let t = c .before .before .before .before .before .args .t in
     let E : c .before .before .extent-of .result ≡ extentAt l p = c .before .before .extent-of .ensures in
     let W = ext.within l p (c .before .before .before .before .before .pre .0 .0) (c .before .before .before .before .before .pre .0 .1) (c .before .before .extent-of .result) E in
-    let R = ext.room-by l p t (c .before .before .extent-of .result) E (c .before .before .before .before .before .pre .1 .1) in
+    let R = puts.room-by l p t (c .before .before .extent-of .result) E (c .before .before .before .before .before .pre .1 .1) in
     let z = facts.long l (c .before .before .before .before .before .pre .0 .0) in
     ((z, W .events), (search needs, R .events))
 
@@ -34,7 +35,7 @@ copy-calls-requires c κs =
     let t = c .before .before .before .before .before .before .before .before .before .args .t in
     let E : c .before .before .before .before .before .before .extent-of .result ≡ extentAt l p = c .before .before .before .before .before .before .extent-of .ensures in
     let W = ext.within l p (c .before .before .before .before .before .before .before .before .before .pre .0 .0) (c .before .before .before .before .before .before .before .before .before .pre .0 .1) (c .before .before .before .before .before .before .extent-of .result) E in
-    let R = ext.room-by l p t (c .before .before .before .before .before .before .extent-of .result) E (c .before .before .before .before .before .before .before .before .before .pre .1 .1) in
+    let R = puts.room-by l p t (c .before .before .before .before .before .before .extent-of .result) E (c .before .before .before .before .before .before .before .before .before .pre .1 .1) in
     let z = facts.long l (c .before .before .before .before .before .before .before .before .before .pre .0 .0) in
     ((c .before .before .before .before .before .before .before .before .before .pre .0 .0, W .calls), (search needs, R .calls))
 
@@ -45,7 +46,7 @@ copy-parameters-requires c κs =
     let t = c .before .before .before .before .before .before .before .before .before .before .before .before .before .args .t in
     let E : c .before .before .before .before .before .before .before .before .before .before .extent-of .result ≡ extentAt l p = c .before .before .before .before .before .before .before .before .before .before .extent-of .ensures in
     let W = ext.within l p (c .before .before .before .before .before .before .before .before .before .before .before .before .before .pre .0 .0) (c .before .before .before .before .before .before .before .before .before .before .before .before .before .pre .0 .1) (c .before .before .before .before .before .before .before .before .before .before .extent-of .result) E in
-    let R = ext.room-by l p t (c .before .before .before .before .before .before .before .before .before .before .extent-of .result) E (c .before .before .before .before .before .before .before .before .before .before .before .before .before .pre .1 .1) in
+    let R = puts.room-by l p t (c .before .before .before .before .before .before .before .before .before .before .extent-of .result) E (c .before .before .before .before .before .before .before .before .before .before .before .before .before .pre .1 .1) in
     let z = facts.long l (c .before .before .before .before .before .before .before .before .before .before .before .before .before .pre .0 .0) in
     ((c .before .before .before .before .before .before .before .before .before .before .before .before .before .pre .0 .0, W .parameters), (search needs, R .parameters))
 
@@ -56,7 +57,7 @@ put-production-requires c κs =
     let t = c .before .before .before .before .before .before .before .before .before .before .before .before .before .before .before .before .before .args .t in
     let E : c .before .before .before .before .before .before .before .before .before .before .before .before .before .before .extent-of .result ≡ extentAt l p = c .before .before .before .before .before .before .before .before .before .before .before .before .before .before .extent-of .ensures in
     let W = ext.within l p (c .before .before .before .before .before .before .before .before .before .before .before .before .before .before .before .before .before .pre .0 .0) (c .before .before .before .before .before .before .before .before .before .before .before .before .before .before .before .before .before .pre .0 .1) (c .before .before .before .before .before .before .before .before .before .before .before .before .before .before .extent-of .result) E in
-    let R = ext.room-by l p t (c .before .before .before .before .before .before .before .before .before .before .before .before .before .before .extent-of .result) E (c .before .before .before .before .before .before .before .before .before .before .before .before .before .before .before .before .before .pre .1 .1) in
+    let R = puts.room-by l p t (c .before .before .before .before .before .before .before .before .before .before .before .before .before .before .extent-of .result) E (c .before .before .before .before .before .before .before .before .before .before .before .before .before .before .before .before .before .pre .1 .1) in
     let z = facts.long l (c .before .before .before .before .before .before .before .before .before .before .before .before .before .before .before .before .before .pre .0 .0) in
     ((search needs, R .productions), (omega (arith, R .events), omega (arith, R .calls)))
 
@@ -70,9 +71,9 @@ returns c =
     let t = c .before .before .before .before .before .before .before .before .before .before .before .before .before .before .before .before .before .before .before .before .args .t in
     let E : c .before .before .before .before .before .before .before .before .before .before .before .before .before .before .before .before .before .extent-of .result ≡ extentAt l p = c .before .before .before .before .before .before .before .before .before .before .before .before .before .before .before .before .before .extent-of .ensures in
     let W = ext.within l p (c .before .before .before .before .before .before .before .before .before .before .before .before .before .before .before .before .before .before .before .before .pre .0 .0) (c .before .before .before .before .before .before .before .before .before .before .before .before .before .before .before .before .before .before .before .before .pre .0 .1) (c .before .before .before .before .before .before .before .before .before .before .before .before .before .before .before .before .before .extent-of .result) E in
-    let R = ext.room-by l p t (c .before .before .before .before .before .before .before .before .before .before .before .before .before .before .before .before .before .extent-of .result) E (c .before .before .before .before .before .before .before .before .before .before .before .before .before .before .before .before .before .before .before .before .pre .1 .1) in
+    let R = puts.room-by l p t (c .before .before .before .before .before .before .before .before .before .before .before .before .before .before .before .before .before .extent-of .result) E (c .before .before .before .before .before .before .before .before .before .before .before .before .before .before .before .before .before .before .before .before .pre .1 .1) in
     let z = facts.long l (c .before .before .before .before .before .before .before .before .before .before .before .before .before .before .before .before .before .before .before .before .pre .0 .0) in
-    (c .before .before .before .before .before .before .before .before .before .before .before .before .before .before .before .before .tally-one .ensures, rw (c .before .before .put-production .ensures, c .before .before .before .before .before .before .copy-parameters .ensures, c .before .before .before .before .before .before .before .before .before .before .copy-calls .ensures, c .before .before .before .before .before .before .before .before .before .before .before .before .before .before .copy-events .ensures) (ext.put-by l p (c .before .before .before .before .before .before .before .before .before .before .before .before .before .before .before .before .before .before .before .before .args .second) t (c .before .before .before .before .before .before .before .before .before .before .before .before .before .before .before .before .before .before .before .before .args .out .now) (c .before .before .before .before .before .before .before .before .before .before .before .before .before .before .before .before .before .extent-of .result) E))
+    (c .before .before .before .before .before .before .before .before .before .before .before .before .before .before .before .before .tally-one .ensures, rw (c .before .before .put-production .ensures, c .before .before .before .before .before .before .copy-parameters .ensures, c .before .before .before .before .before .before .before .before .before .before .copy-calls .ensures, c .before .before .before .before .before .before .before .before .before .before .before .before .before .before .copy-events .ensures) (puts.put-by l p (c .before .before .before .before .before .before .before .before .before .before .before .before .before .before .before .before .before .before .before .before .args .second) t (c .before .before .before .before .before .before .before .before .before .before .before .before .before .before .before .before .before .before .before .before .args .out .now) (c .before .before .before .before .before .before .before .before .before .before .before .before .before .before .before .before .before .extent-of .result) E))
 
 pub copy-production-spec : {M : Type 1} → statement M
 copy-production-spec =

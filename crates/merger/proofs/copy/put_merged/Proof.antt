@@ -1,8 +1,8 @@
 -- `merger::copy::put_merged` meets its contract.
 use borrow.Author.Needs.{needs}
 use native.Mathlib.Omega.{arith}
-use Rattle.merger.proofs.WholeFacts as facts
-use Rattle.merger.specs.Counting.{TallyRoom}
+use Rattle.tally.proofs.WholeFacts as facts
+use Rattle.tally.specs.Counting.{TallyRoom}
 use Rattle.merger.specs.Copying.{putMerged}
 use Rattle.merger.proofs.copy.put_merged.Statement.{statement}
 use Rattle.merger.proofs.copy.put_merged.Tie as tie
