@@ -20,7 +20,8 @@ pub record ReadExample : Type 0 where
 
 unfoldable pub readExamples : List ReadExample
 readExamples =
-    record { text = bytes "<Key>a:f()"; name = bytes "f"; parameters = [] }
+    record { text = bytes "<Key>a:f(ab)"; name = bytes "f"; parameters = bytes "ab" ∷ [] }
+    ∷ record { text = bytes "<Key>a:f()"; name = bytes "f"; parameters = [] }
     ∷ record { text = bytes "<Key>a:f(\"\")"; name = bytes "f"; parameters = [] ∷ [] }
     ∷ record { text = bytes "<Key>a:f(,)"; name = bytes "f"; parameters = [] ∷ [] ∷ [] }
     ∷ record { text = bytes "<Key>a:f( )"; name = bytes "f"; parameters = [] }
