@@ -1,7 +1,7 @@
 -- Where the names of types and details stand in the table of names, by one computed test for each group.
-use Prim.Native.Nat.{ℕ, zero, suc, _+_, _-_, _≤_, _<_}
+use Prim.Native.Nat.{ℕ, zero, suc, _+_, _-_, _≤_}
 use native.Mathlib.Omega.{arith}
-use mathlib.Core.Path.{_≡_, refl, sym, ap, _∙_}
+use mathlib.Core.Path.{_≡_, refl}
 use mathlib.Core.List.{List, []}
 use borrow.Author.Tests.{ne-eqb, le-ltb, le-leb}
 use Rattle.words.specs.Runs.{run}

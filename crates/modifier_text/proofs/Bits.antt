@@ -1,7 +1,6 @@
 -- The modifiers that are written, one more bit of the order at a time, and when `!` is written.
-use Prim.Native.Nat.{ℕ, zero, suc, _+_, _≤_, _<_}
+use Prim.Native.Nat.{ℕ, _+_, _≤_, _<_}
 use native.Mathlib.Nat.{zero-add}
-use native.Mathlib.Omega.{arith}
 use mathlib.Core.Path.{_≡_, refl, sym, ap, _∙_}
 use mathlib.Core.List.{List, [], _∷_, _++_, append-nil}
 use mathlib.Core.Bool.{Bool, true, false, cond, not, _&&_, _||_, and-false}
@@ -11,7 +10,7 @@ use borrow.Author.Tests.{le-leb, lt-leb}
 use Rattle.words.specs.Runs.{run, every}
 use Rattle.words.proofs.RunLaws.{run-more, every-more, every-same}
 use Rattle.model.specs.Lists.{all, those}
-use Rattle.model.specs.Modifiers.{bit, bits, asksBit}
+use Rattle.model.specs.Modifiers.{bits, asksBit}
 use Rattle.model.specs.Canonical.{joinedBy, each, bitsText, bitText, isWrittenBit, isTestable, writesBang}
 use Rattle.model.specs.declared.events.KeptEvent.{KeptEvent}
 use Rattle.writing.specs.Overlay.{separator}

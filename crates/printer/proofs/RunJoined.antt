@@ -3,7 +3,6 @@ use Prim.Native.Nat.{ℕ, _+_}
 use native.Mathlib.Nat.{zero-add}
 use mathlib.Core.Path.{_≡_, refl, sym, ap, _∙_}
 use mathlib.Core.List.{List, [], _∷_, _++_, append-assoc, append-nil}
-use lib.ListN.{length}
 use Rattle.words.specs.Runs.{run}
 use Rattle.words.proofs.RunLaws.{run-more, length-run}
 use Rattle.model.specs.Canonical.{joinedBy, each, productionText, productionsText}

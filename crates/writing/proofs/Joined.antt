@@ -1,15 +1,14 @@
 -- Laws of lists that grow at the end: of texts that are joined, of elements that pass a test, of tests of all.
 use Prim.Native.Nat.{ℕ, zero, suc, _+_, _<_}
-use native.Mathlib.Nat.{zero-add, add-zero}
 use native.Mathlib.Omega.{arith}
 use mathlib.Core.Path.{_≡_, refl, sym, ap, _∙_}
-use mathlib.Core.List.{List, [], _∷_, _++_, append-assoc, append-nil}
-use mathlib.Core.Bool.{Bool, true, false, cond, not, _&&_, _||_, and-true, and-assoc}
+use mathlib.Core.List.{List, [], _∷_, _++_, append-assoc}
+use mathlib.Core.Bool.{Bool, true, false, cond, _&&_, and-true, and-assoc}
 use lib.Dec.{ltb}
 use borrow.Author.Tests.{lt-ltb}
-use lib.ListN.{length, getD, length-append}
+use lib.ListN.{length, getD}
 use Rattle.words.specs.Runs.{run, every}
-use Rattle.words.proofs.RunLaws.{run-last, getD-run, length-run}
+use Rattle.words.proofs.RunLaws.{run-last, getD-run}
 use Rattle.model.specs.Lists.{all, those}
 use Rattle.model.specs.Canonical.{joinedBy, each}
 use Rattle.writing.specs.Overlay.{separator}

@@ -1,8 +1,8 @@
 -- `event_text::put_count` meets its contract.
 use borrow.Author.Needs.{needs}
 use native.Mathlib.Omega.{arith}
-use borrow.Author.Tests.{lt-ltb, le-ltb, le-leb, lt-leb}
-use Rattle.writing.proofs.Laws.{put-none, put-then, put-as}
+use borrow.Author.Tests.{lt-ltb, le-ltb}
+use Rattle.writing.proofs.Laws.{put-none, put-then}
 use Rattle.model.specs.Canonical.{countText}
 use Rattle.event_text.proofs.put_count.Statement.{statement}
 use Rattle.event_text.proofs.put_count.Tie as tie

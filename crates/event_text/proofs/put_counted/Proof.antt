@@ -1,7 +1,7 @@
 -- `event_text::put_counted` meets its contract.
 use borrow.Author.Needs.{needs}
 use native.Mathlib.Omega.{arith}
-use Rattle.writing.proofs.Laws.{put-none, put-then, put-as}
+use Rattle.writing.proofs.Laws.{put-then}
 use Rattle.event_text.proofs.put_counted.Statement.{statement}
 use Rattle.event_text.proofs.put_counted.Tie as tie
 

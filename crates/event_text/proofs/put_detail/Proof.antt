@@ -1,8 +1,7 @@
 -- `event_text::put_detail` meets its contract.
 use borrow.Author.Needs.{needs}
-use native.Mathlib.Omega.{arith}
-use mathlib.Core.Path.{_≡_, sym, ap, _∙_}
-use Rattle.writing.proofs.Laws.{put-none, put-then, put-as}
+use mathlib.Core.Path.{sym, ap}
+use Rattle.writing.proofs.Laws.{put-none, put-as}
 use Rattle.model.specs.Canonical.{detailText}
 use Rattle.event_text.proofs.put_detail.Statement.{statement}
 use Rattle.event_text.proofs.put_detail.Tie as tie

@@ -1,11 +1,8 @@
 -- `event_text::put_event` meets its contract.
 use borrow.Author.Needs.{needs}
 use native.Mathlib.Omega.{arith}
-use mathlib.Core.Path.{_≡_, sym, ap, _∙_}
-use Rattle.writing.proofs.Laws.{put-none, put-then, put-as}
-use mathlib.Core.List.{List, _++_}
-use Prim.Native.Nat.{ℕ}
-use Rattle.model.specs.Canonical.{modifiersText, typeText, countText, detailText, eventText}
+use Rattle.writing.proofs.Laws.{put-then, put-as}
+use Rattle.model.specs.Canonical.{typeText, countText, detailText, eventText}
 use Rattle.tables.proofs.EventWords.{RangeFacts, range-facts}
 use Rattle.event_text.proofs.Values.{then-detail}
 use Rattle.event_text.proofs.put_event.Statement.{statement}

@@ -1,7 +1,6 @@
 -- `event_text::put_type` meets its contract.
 use borrow.Author.Needs.{needs}
-use native.Mathlib.Omega.{arith}
-use mathlib.Core.Path.{_≡_, sym, ap, _∙_}
+use mathlib.Core.Path.{sym}
 use Rattle.model.specs.Canonical.{typeText}
 use Rattle.writing.proofs.Laws.{put-as}
 use Rattle.event_text.proofs.Named.{button-motion, type-name}

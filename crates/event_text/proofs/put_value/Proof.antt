@@ -1,7 +1,7 @@
 -- `event_text::put_value` meets its contract.
 use borrow.Author.Needs.{needs}
 use native.Mathlib.Omega.{arith}
-use Rattle.writing.proofs.Laws.{put-none, put-then, put-as}
+use Rattle.writing.proofs.Laws.{put-as}
 use Rattle.event_text.proofs.Values.{value-key, value-button, value-motion, value-mode, value-request}
 use Rattle.event_text.proofs.put_value.Statement.{statement}
 use Rattle.event_text.proofs.put_value.Tie as tie

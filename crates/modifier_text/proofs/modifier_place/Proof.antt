@@ -1,6 +1,6 @@
 -- `modifier_text::modifier_place` meets its contract.
 use borrow.Author.Needs.{needs}
-use borrow.Author.Tests.{lt-ltb, le-ltb, le-leb, lt-leb, eq-eqb, ne-eqb}
+use borrow.Author.Tests.{lt-ltb, le-ltb, eq-eqb, ne-eqb}
 use Rattle.modifier_text.specs.Places.{modifierPlace}
 use Rattle.modifier_text.proofs.modifier_place.Statement.{statement}
 use Rattle.modifier_text.proofs.modifier_place.Tie as tie

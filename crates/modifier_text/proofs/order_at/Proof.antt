@@ -1,6 +1,6 @@
 -- `modifier_text::order_at` meets its contract.
 use borrow.Author.Needs.{needs}
-use borrow.Author.Tests.{lt-ltb, le-ltb, le-leb, lt-leb, eq-eqb, ne-eqb}
+use borrow.Author.Tests.{lt-ltb, le-ltb, eq-eqb, ne-eqb}
 use Rattle.modifier_text.specs.Places.{orderAt}
 use Rattle.modifier_text.proofs.order_at.Statement.{statement}
 use Rattle.modifier_text.proofs.order_at.Tie as tie

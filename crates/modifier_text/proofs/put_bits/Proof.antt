@@ -5,9 +5,8 @@ use mathlib.Core.Path.{_≡_, sym, ap, _∙_}
 use Prim.Native.Nat.{ℕ, _+_, _*_, _-_, _≤_}
 use lib.ListN.{length}
 use mathlib.Core.Bool.{Bool, true, false, cond}
-use Rattle.model.specs.Canonical.{isWrittenBit, bitText, bitsText}
+use Rattle.model.specs.Canonical.{isWrittenBit, bitText}
 use Rattle.writing.specs.Overlay.{Put}
-use Rattle.modifier_text.specs.Places.{orderAt}
 use Rattle.writing.proofs.Laws.{put-none, put-then, put-as, put-length}
 use Rattle.modifier_text.proofs.Bits.{writtenTo, bitsTo, bits-none, count-none, bits-step, count-step, bits-all}
 use Rattle.modifier_text.proofs.put_bits.Statement.{statement}

@@ -1,10 +1,9 @@
 -- `modifier_text::put_modifiers` meets its contract.
 use borrow.Author.Needs.{needs}
 use native.Mathlib.Omega.{arith}
-use mathlib.Core.Path.{_≡_, sym, ap, _∙_}
-use Rattle.writing.proofs.Laws.{put-none, put-then, put-as}
-use Prim.Native.Nat.{ℕ}
-use mathlib.Core.List.{List, [], _∷_, _++_}
+use mathlib.Core.Path.{ap}
+use Rattle.writing.proofs.Laws.{put-then, put-as}
+use mathlib.Core.List.{[], _∷_, _++_}
 use mathlib.Core.Bool.{Bool, cond}
 use Rattle.model.specs.Canonical.{bitsText, modifiersText}
 use Rattle.modifier_text.proofs.put_modifiers.Statement.{statement}

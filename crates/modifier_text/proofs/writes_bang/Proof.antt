@@ -1,8 +1,8 @@
 -- `modifier_text::writes_bang` meets its contract.
 use borrow.Author.Needs.{needs}
 use native.Mathlib.Omega.{arith}
-use mathlib.Core.Path.{_≡_, sym, ap, _∙_}
-use Prim.Native.Nat.{ℕ, _-_, _≤_}
+use mathlib.Core.Path.{_≡_, ap, _∙_}
+use Prim.Native.Nat.{_-_, _≤_}
 use Rattle.words.specs.Runs.{every}
 use Rattle.modifier_text.specs.Places.{isAsked}
 use Rattle.modifier_text.proofs.Bits.{every-none, every-step, bang-inside, bang-low, bang-high}

@@ -1,16 +1,13 @@
 -- `printer::calls::put_call` meets its contract.
 use borrow.Author.Needs.{needs}
 use native.Mathlib.Omega.{arith}
-use mathlib.Core.Path.{_≡_, sym, ap, _∙_}
-use Rattle.writing.proofs.Laws.{put-none, put-then, put-as, put-length}
-use mathlib.Core.List.{List, [], _∷_, _++_}
+use mathlib.Core.Path.{_≡_, ap, _∙_}
+use Rattle.writing.proofs.Laws.{put-then, put-as}
 use mathlib.Core.Bool.{Bool}
-use Prim.Native.Nat.{ℕ}
-use Rattle.words.specs.Runs.{run}
 use Rattle.model.specs.Asking.{partBytes}
-use Rattle.model.specs.Canonical.{joinedBy, each, parameterText, callText}
+use Rattle.model.specs.Canonical.{callText}
 use Rattle.model.specs.declared.scan.Span.{Span}
-use Rattle.tables.specs.Reading.{callEntry, parameterEntry, firstParameter, callParameters, markEntry, nameEntry}
+use Rattle.tables.specs.Reading.{callEntry, markEntry, nameEntry}
 use Rattle.table_check.proofs.WholeFacts.{WholeFacts}
 use Rattle.printer.proofs.ReadyFacts.{Within, ready-facts, name-within}
 use Rattle.printer.proofs.calls.put_call.Statement.{statement}

@@ -1,15 +1,15 @@
 -- `printer::calls::put_calls` meets its contract.
 use borrow.Author.Needs.{needs}
 use native.Mathlib.Omega.{arith}
-use mathlib.Core.Path.{_≡_, sym, ap, _∙_}
+use mathlib.Core.Path.{_≡_, ap}
 use Rattle.writing.proofs.Laws.{put-none, put-then, put-as, put-length}
 use Prim.Native.Nat.{ℕ, _+_, _*_, _-_, _≤_}
-use mathlib.Core.List.{List, [], _∷_, _++_}
+use mathlib.Core.List.{[], _∷_}
 use Rattle.words.specs.Runs.{run}
 use Rattle.model.specs.Canonical.{joinedBy, each, callText}
 use Rattle.tables.specs.Reading.{callEntry}
 use Rattle.table_check.proofs.WholeFacts.{WholeFacts}
-use Rattle.writing.specs.Overlay.{Put, separator}
+use Rattle.writing.specs.Overlay.{Put}
 use Rattle.printer.proofs.RunJoined.{run-joined, run-joined-none}
 use Rattle.printer.proofs.ReadyFacts.{ready-facts}
 use Rattle.printer.proofs.calls.put_calls.Statement.{statement}

@@ -1,7 +1,7 @@
 -- `printer::calls::put_parameter` meets its contract.
 use borrow.Author.Needs.{needs}
 use native.Mathlib.Omega.{arith}
-use Rattle.writing.proofs.Laws.{put-none, put-then, put-as, put-length}
+use Rattle.writing.proofs.Laws.{put-then}
 use Rattle.model.specs.Canonical.{parameterText}
 use Rattle.printer.proofs.calls.put_parameter.Statement.{statement}
 use Rattle.printer.proofs.calls.put_parameter.Tie as tie

@@ -1,7 +1,5 @@
 -- `printer::calls::put_span` meets its contract.
 use borrow.Author.Needs.{needs}
-use native.Mathlib.Omega.{arith}
-use mathlib.Core.Path.{_≡_, sym, ap, _∙_}
 use Prim.Native.Nat.{_+_, _≤_}
 use lib.ListN.{length}
 use Rattle.printer.proofs.calls.put_span.Statement.{statement}

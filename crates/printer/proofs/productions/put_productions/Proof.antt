@@ -1,10 +1,9 @@
 -- `printer::productions::put_productions` meets its contract.
 use borrow.Author.Needs.{needs}
 use native.Mathlib.Omega.{arith}
-use mathlib.Core.Path.{_≡_, sym, ap, _∙_}
+use mathlib.Core.Path.{_≡_, ap}
 use Rattle.writing.proofs.Laws.{put-none, put-then, put-as, put-length}
-use Prim.Native.Nat.{ℕ, _+_, _*_, _-_, _≤_}
-use mathlib.Core.List.{List, _++_}
+use Prim.Native.Nat.{ℕ, _*_, _-_, _≤_}
 use Rattle.words.specs.Runs.{run}
 use Rattle.model.specs.Canonical.{productionsText}
 use Rattle.tables.specs.Reading.{productionEntry, productionTotal}

@@ -2,7 +2,7 @@
 use borrow.Author.Needs.{needs}
 use native.Mathlib.Omega.{arith}
 use Prim.Native.Nat.{_+_, _-_, _≤_}
-use lib.ListN.{length, take, drop}
+use lib.ListN.{take, drop}
 use mathlib.Core.Path.{_≡_, sym}
 use Rattle.writing.specs.Overlay.{Put}
 use Rattle.writing.proofs.Laws.{put-none, put-then, put-as, put-length, part-more}

@@ -13,10 +13,10 @@ same-length : tie.Need-same-length
 same-length c = search needs
 
 returns : tie.Need-returns
-returns c = (rw (lt-ltb _ _ (c .before .before .before .before .if1 .taken)) (c .before .before .put-byte .ensures), omega (arith, c .before .before .put-byte .ensures .next))
+returns c = (rw (lt-ltb 0 (c .before .before .before .before .before .before .args .n) (omega (arith, c .before .before .before .before .if1 .taken))) (c .before .before .put-byte .ensures), omega (arith, c .before .before .put-byte .ensures .next))
 
 returns-2 : tie.Need-returns-2
-returns-2 c = (rw (le-ltb _ _ (c .if1 .left)) (put-none _ _), search needs)
+returns-2 c = (rw (le-ltb 0 (c .before .before .args .n) (omega (arith, c .if1 .left))) (put-none _ _), search needs)
 
 pub put-separator-spec : {M : Type 1} → statement M
 put-separator-spec = tie.close (tie.spec put-byte-requires same-length returns returns-2)

@@ -3,9 +3,9 @@ use borrow.Author.Needs.{needs}
 use native.Mathlib.Omega.{arith}
 use native.Mathlib.Nat.{mod-lt}
 use mathlib.Core.Path.{_≡_, sym, ap, _∙_}
-use mathlib.Core.List.{List, [], _∷_, _++_}
-use Prim.Native.Nat.{_+_, _-_, _/_, _%_, _≤_}
-use Rattle.model.specs.Canonical.{digit, digitsIn}
+use mathlib.Core.List.{[], _∷_, _++_}
+use Prim.Native.Nat.{_+_, _-_, _/_, _≤_}
+use Rattle.model.specs.Canonical.{digitsIn}
 use Rattle.writing.proofs.Laws.{put-none, put-then, put-as}
 use Rattle.writing.proofs.Digits.{digits-none, digits-one, digits-more}
 use Prim.Native.Nat.{ℕ, _<_}

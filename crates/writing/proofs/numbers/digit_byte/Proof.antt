@@ -1,6 +1,6 @@
 -- `writing::numbers::digit_byte` meets its contract.
 use borrow.Author.Needs.{needs}
-use borrow.Author.Tests.{lt-ltb, le-ltb, le-leb, lt-leb, eq-eqb, ne-eqb}
+use borrow.Author.Tests.{lt-ltb, le-ltb}
 use Rattle.writing.proofs.numbers.digit_byte.Statement.{statement}
 use Rattle.writing.proofs.numbers.digit_byte.Tie as tie
 

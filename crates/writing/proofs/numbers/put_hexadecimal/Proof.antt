@@ -1,7 +1,7 @@
 -- `writing::numbers::put_hexadecimal` meets its contract.
 use borrow.Author.Needs.{needs}
 use native.Mathlib.Omega.{arith}
-use Rattle.writing.proofs.Laws.{put-none, put-then, put-as}
+use Rattle.writing.proofs.Laws.{put-then}
 use Rattle.model.specs.Canonical.{hexadecimal}
 use Rattle.writing.proofs.numbers.put_hexadecimal.Statement.{statement}
 use Rattle.writing.proofs.numbers.put_hexadecimal.Tie as tie
