@@ -3,16 +3,17 @@ use Prim.Native.Nat.{ℕ, zero, suc, _+_, _*_, _%_, _/_, _≤_, _<_}
 use native.Mathlib.Omega.{arith}
 use native.Mathlib.Nat.{zero-add, mod-eq-of-lt, add-mul-mod-self-left, add-mul-div-left, div-eq-of-lt}
 use mathlib.Core.Path.{_≡_, refl, ap, _∙_}
-use mathlib.Core.List.{List, [], _∷_}
+use mathlib.Core.List.{List, [], _∷_, map}
 use mathlib.Core.Bool.{Bool, true, false, _&&_, _||_}
 use lib.Dec.{leb, ltb, eqb}
 use borrow.Author.Tests.{leb-true, ltb-true, eqb-true, le-leb, lt-ltb, eq-eqb}
 use Rattle.words.proofs.Bools.{and-left, and-right, and-both, chain-parts, chain-all, AllTrue}
 use Rattle.model.specs.declared.events.Detail.{Detail}
 use Rattle.model.specs.declared.events.KeptEvent.{KeptEvent}
-use Rattle.tables.specs.Layout.{flag, isGiven, valueOf, flagsWord, lowWord, highWord}
+use Rattle.tables.specs.Layout.{eventFields, flag, isGiven, valueOf, flagsWord, lowWord, highWord}
 use Rattle.tables.specs.Reading.{isFlag, detailFromWord, eventFromWords}
 use Rattle.tables.specs.Fitting.{eventInRange}
+use Rattle.tables.proofs.Columns.{consed}
 use Rattle.tables.proofs.EventWords.{flags-below, RangeFacts, range-facts, facts-range}
 use Rattle.event_check.specs.Events.{eventWordsOk}
 
@@ -223,25 +224,28 @@ module _ (c n s k f lo hi : ℕ) (ok : eventWordsOk c n s k f lo hi ≡ true) (b
   unfolding eventFromWords
   count-back = count-same
 
-  pub set-back : eventFromWords c n s k f lo hi .set ≡ s
+  set-back : eventFromWords c n s k f lo hi .set ≡ s
   unfolding eventFromWords
   set-back = refl
 
-  pub clear-back : eventFromWords c n s k f lo hi .clear ≡ k
+  clear-back : eventFromWords c n s k f lo hi .clear ≡ k
   unfolding eventFromWords
   clear-back = refl
 
-  pub flags-word-back : flagsWord (eventFromWords c n s k f lo hi) ≡ f
+  flags-word-back : flagsWord (eventFromWords c n s k f lo hi) ≡ f
   unfolding eventFromWords
   flags-word-back =
       let r : EventFacts c n s k f lo hi = facts in
       rw (given-back (isFlag 4 f) (lo + 65536 * hi)) (flags-back f (r .flagsBelow))
 
-  pub low-word-back : lowWord (eventFromWords c n s k f lo hi) ≡ lo
+  low-word-back : lowWord (eventFromWords c n s k f lo hi) ≡ lo
   low-word-back = ap (λ (v : ℕ). v % 65536) value-same ∙ add-mul-mod-self-left lo 65536 hi ∙ mod-eq-of-lt below
 
-  pub high-word-back : highWord (eventFromWords c n s k f lo hi) ≡ hi
+  high-word-back : highWord (eventFromWords c n s k f lo hi) ≡ hi
   high-word-back =
       let e : (lo + 65536 * hi) / 65536 ≡ lo / 65536 + hi = add-mul-div-left lo hi (omega arith) in
       let z : lo / 65536 ≡ 0 = div-eq-of-lt below in
       ap (λ (v : ℕ). v / 65536) value-same ∙ e ∙ rw (z, zero-add)
+
+  pub words-back : map (λ (g : KeptEvent → ℕ). g (eventFromWords c n s k f lo hi)) eventFields ≡ (c ∷ n ∷ s ∷ k ∷ f ∷ lo ∷ hi ∷ [])
+  words-back = consed code-back (consed count-back (consed set-back (consed clear-back (consed flags-word-back (consed low-word-back (consed high-word-back refl))))))

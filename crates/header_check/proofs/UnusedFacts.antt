@@ -1,53 +1,56 @@
 -- What the tests of the unused words say of each section.
-use Prim.Native.Nat.{ℕ}
-use mathlib.Core.Path.{_≡_}
-use mathlib.Core.List.{List, [], _∷_}
+use Prim.Native.Nat.{ℕ, _+_, _≤_}
+use native.Mathlib.Omega.{arith}
+use mathlib.Core.Path.{_≡_, refl}
+use mathlib.Core.List.{List, [], _∷_, _++_}
 use mathlib.Core.Bool.{true}
 use Rattle.words.specs.Words.{wordAt}
+use Rattle.words.specs.Runs.{every}
 use Rattle.words.proofs.Bools.{chain-parts}
+use Rattle.tables.specs.Layout.{forEach, eventFields, callFields, parameterFields, capacities}
 use Rattle.tables.specs.Layout.{productionEventsAt, productionCallsAt, codesAt, countsAt, setsAt, clearsAt, flagsAt, lowsAt, highsAt, marksAt, nameStartsAt, nameLengthsAt, callParametersAt, parameterStartsAt, parameterLengthsAt}
 use Rattle.header_check.specs.Unused.{restZero, productionsRest, testsRest, detailsRest, callsRest, parametersRest, unusedOk}
+use Rattle.header_check.proofs.HeaderFacts.{HeaderFacts}
 
-pub record RestFacts (l : List ℕ) : Type 0 where
-  pub productionEvents : restZero l productionEventsAt 64 (wordAt l 4) ≡ true
-  pub productionCalls : restZero l productionCallsAt 64 (wordAt l 4) ≡ true
-  pub codes : restZero l codesAt 256 (wordAt l 5) ≡ true
-  pub counts : restZero l countsAt 256 (wordAt l 5) ≡ true
-  pub sets : restZero l setsAt 256 (wordAt l 5) ≡ true
-  pub clears : restZero l clearsAt 256 (wordAt l 5) ≡ true
-  pub flags : restZero l flagsAt 256 (wordAt l 5) ≡ true
-  pub lows : restZero l lowsAt 256 (wordAt l 5) ≡ true
-  pub highs : restZero l highsAt 256 (wordAt l 5) ≡ true
-  pub marks : restZero l marksAt 128 (wordAt l 6) ≡ true
-  pub nameStarts : restZero l nameStartsAt 128 (wordAt l 6) ≡ true
-  pub nameLengths : restZero l nameLengthsAt 128 (wordAt l 6) ≡ true
-  pub callParameters : restZero l callParametersAt 128 (wordAt l 6) ≡ true
-  pub parameterStarts : restZero l parameterStartsAt 256 (wordAt l 7) ≡ true
-  pub parameterLengths : restZero l parameterLengthsAt 256 (wordAt l 7) ≡ true
+-- sections of these capacities, from word s on: n words of each are used, and the others are 0
+pub data Rests (l : List ℕ) : (cs ns : List ℕ) → ℕ → Type 0 where
+  none : {s : ℕ} → Rests l [] [] s
+  more : {c n s : ℕ} {cs ns : List ℕ} → n ≤ c → restZero l s c n ≡ true → Rests l cs ns (s + c) → Rests l (c ∷ cs) (n ∷ ns) s
 
-pub rest-facts : (l : List ℕ) → unusedOk l ≡ true → RestFacts l
+-- how many words of each section the header says are used
+abbrev pub used : List ℕ → List ℕ
+used l =
+    8
+    ∷ wordAt l 4 ∷ wordAt l 4
+    ∷ (forEach eventFields (wordAt l 5) ++ (forEach callFields (wordAt l 6) ++ forEach parameterFields (wordAt l 7)))
+
+header-used : (l : List ℕ) → restZero l 0 8 8 ≡ true
+unfolding restZero every
+header-used l = refl
+
+pub rest-facts : (l : List ℕ) → HeaderFacts l → unusedOk l ≡ true → Rests l capacities (used l) 0
 unfolding unusedOk productionsRest testsRest detailsRest callsRest parametersRest
-rest-facts l e =
+rest-facts l h e =
     let r = chain-parts (productionsRest l (wordAt l 4)) (testsRest l (wordAt l 5) ∷ detailsRest l (wordAt l 5) ∷ callsRest l (wordAt l 6) ∷ parametersRest l (wordAt l 7) ∷ []) e in
     let p = chain-parts (restZero l productionEventsAt 64 (wordAt l 4)) (restZero l productionCallsAt 64 (wordAt l 4) ∷ []) (r .0) in
     let t = chain-parts (restZero l codesAt 256 (wordAt l 5)) (restZero l countsAt 256 (wordAt l 5) ∷ restZero l setsAt 256 (wordAt l 5) ∷ restZero l clearsAt 256 (wordAt l 5) ∷ []) (r .1 .0) in
     let d = chain-parts (restZero l flagsAt 256 (wordAt l 5)) (restZero l lowsAt 256 (wordAt l 5) ∷ restZero l highsAt 256 (wordAt l 5) ∷ []) (r .1 .1 .0) in
     let c = chain-parts (restZero l marksAt 128 (wordAt l 6)) (restZero l nameStartsAt 128 (wordAt l 6) ∷ restZero l nameLengthsAt 128 (wordAt l 6) ∷ restZero l callParametersAt 128 (wordAt l 6) ∷ []) (r .1 .1 .1 .0) in
     let s = chain-parts (restZero l parameterStartsAt 256 (wordAt l 7)) (restZero l parameterLengthsAt 256 (wordAt l 7) ∷ []) (r .1 .1 .1 .1 .0) in
-    record {
-      productionEvents = p .0;
-      productionCalls = p .1 .0;
-      codes = t .0;
-      counts = t .1 .0;
-      sets = t .1 .1 .0;
-      clears = t .1 .1 .1 .0;
-      flags = d .0;
-      lows = d .1 .0;
-      highs = d .1 .1 .0;
-      marks = c .0;
-      nameStarts = c .1 .0;
-      nameLengths = c .1 .1 .0;
-      callParameters = c .1 .1 .1 .0;
-      parameterStarts = s .0;
-      parameterLengths = s .1 .0;
-    }
+    let all : 8 ≤ 8 = omega arith in
+    more all (header-used l)
+    (more (h .productions) (p .0)
+    (more (h .productions) (p .1 .0)
+    (more (h .events) (t .0)
+    (more (h .events) (t .1 .0)
+    (more (h .events) (t .1 .1 .0)
+    (more (h .events) (t .1 .1 .1 .0)
+    (more (h .events) (d .0)
+    (more (h .events) (d .1 .0)
+    (more (h .events) (d .1 .1 .0)
+    (more (h .calls) (c .0)
+    (more (h .calls) (c .1 .0)
+    (more (h .calls) (c .1 .1 .0)
+    (more (h .calls) (c .1 .1 .1 .0)
+    (more (h .parameters) (s .0)
+    (more (h .parameters) (s .1 .0) none)))))))))))))))

@@ -12,7 +12,7 @@ use Rattle.words.specs.Words.{wordAt}
 use Rattle.words.specs.Runs.{total, every}
 use Rattle.words.proofs.Bools.{and-left, and-right, chain-parts}
 use Rattle.words.proofs.RunLaws.{every-at, total-part}
-use Rattle.tables.specs.Layout.{productionEventsAt, productionCallsAt, callParametersAt, tableLength}
+use Rattle.tables.specs.Layout.{capacities, productionEventsAt, productionCallsAt, callParametersAt, tableLength}
 use Rattle.header_check.specs.Header.{headerOk}
 use Rattle.table_check.specs.Checks.{sumsOk, entriesOk, checks}
 use Rattle.header_check.specs.Unused.{unusedOk}
@@ -20,7 +20,7 @@ use Rattle.event_check.specs.Events.{eventOk}
 use Rattle.span_check.specs.Spans.{callOk, parametersOk}
 use Rattle.sequence_check.specs.Sequences.{sizeAt, productionOk}
 use Rattle.header_check.proofs.HeaderFacts.{HeaderFacts, header-facts}
-use Rattle.header_check.proofs.UnusedFacts.{RestFacts, rest-facts}
+use Rattle.header_check.proofs.UnusedFacts.{Rests, used, rest-facts}
 use Rattle.span_check.proofs.CallWords.{CallWordFacts, call-word-facts}
 
 cond-yes : (a b : Bool) → cond a b false ≡ true → (a ≡ true) × (b ≡ true)
@@ -66,7 +66,7 @@ pub record CheckFacts (l : List ℕ) : Type 0 where
   pub long : tableLength ≤ length l
   pub header : HeaderFacts l
   pub sums : SumFacts l
-  pub rests : RestFacts l
+  pub rests : Rests l capacities (used l) 0
   pub events : (i : ℕ) → i < wordAt l 5 → eventOk l i ≡ true
   pub calls : (i : ℕ) → i < wordAt l 6 → CallWordFacts l i
   pub parameters : (i : ℕ) → i < wordAt l 6 → parametersOk l i ≡ true
@@ -84,7 +84,7 @@ check-facts l e =
       long = ltb-false (length l) tableLength (a .0);
       header = header-facts l (h .0);
       sums = sum-facts l (s .0);
-      rests = rest-facts l (and-left (unusedOk l) (entriesOk l) (s .1));
+      rests = rest-facts l (header-facts l (h .0)) (and-left (unusedOk l) (entriesOk l) (s .1));
       events = λ i q. rw zero-add at (every-at (eventOk l) 0 (wordAt l 5) i (r .0) q);
       calls = λ i q. call-word-facts l i (rw zero-add at (every-at (callOk l) 0 (wordAt l 6) i (r .1 .0) q));
       parameters = λ i q. rw zero-add at (every-at (parametersOk l) 0 (wordAt l 6) i (r .1 .1 .0) q);

@@ -1,12 +1,12 @@
 -- Bytes that pass the checks are those of the table that they read as, and that table fits.
 use Prim.Native.Nat.{ℕ, zero, suc, _+_, _-_, _≤_, _<_}
 use native.Mathlib.Omega.{arith}
-use native.Mathlib.Nat.{zero-add}
+use native.Mathlib.Nat.{zero-add, add-zero, add-assoc}
 use mathlib.Core.Path.{_≡_, refl, sym, ap, _∙_}
-use mathlib.Core.List.{List, [], _∷_, map}
+use mathlib.Core.List.{List, [], _∷_, _++_, map}
 use mathlib.Core.Bool.{Bool, true, false, not, _||_}
 use lib.Dec.{leb, eqb}
-use lib.ListN.{length, getD, take}
+use lib.ListN.{length, getD, take, drop}
 use borrow.Author.Tests.{le-leb, eqb-true}
 use Rattle.words.specs.Words.{wordAt, wordBytes, zeros}
 use Rattle.words.specs.Runs.{run, total, every, isZero}
@@ -19,8 +19,8 @@ use Rattle.model.specs.Compiling.{productionPasses, passesLimit}
 use Rattle.model.specs.Tables.{Call, Production, Table}
 use Rattle.model.specs.declared.scan.Span.{Span}
 use Rattle.model.specs.declared.events.KeptEvent.{KeptEvent}
-use Rattle.tables.specs.Layout.{flag, flagsWord, lowWord, highWord, markWord, directiveWord, allEvents, allCalls, allParameters, padded, joinedSections, offset, capacities, headerOf, entriesOf, sectionsOf, image, encode, tableLength}
-use Rattle.tables.specs.Layout.{productionEventsAt, productionCallsAt, codesAt, countsAt, setsAt, clearsAt, flagsAt, lowsAt, highsAt, marksAt, nameStartsAt, nameLengthsAt, callParametersAt, parameterStartsAt, parameterLengthsAt}
+use Rattle.tables.specs.Layout.{columns, forEach, eventFields, callFields, parameterFields, flag, directiveWord, allEvents, allCalls, allParameters, padded, joinedSections, offset, capacities, headerOf, entriesOf, sectionsOf, image, encode, tableLength}
+use Rattle.tables.specs.Layout.{productionEventsAt, productionCallsAt, codesAt, countsAt, setsAt, clearsAt, flagsAt, lowsAt, highsAt, marksAt, callParametersAt, parameterStartsAt}
 use Rattle.tables.specs.Reading.{directiveFromWord, directiveIn, mergedIn, firstLengthIn, secondLengthIn, productionTotal, parameterEntry, markEntry, nameEntry, callParameters, firstParameter, callEntry, eventEntry, productionEvents, productionCalls, firstEvent, firstCall, productionEntry, decode}
 use Rattle.tables.specs.Fitting.{eventInRange, spanInText, callInRange, textsInRange, hasEvent, fitting}
 use Rattle.header_check.specs.Unused.{restZero}
@@ -28,12 +28,12 @@ use Rattle.event_check.specs.Events.{eventOk}
 use Rattle.span_check.specs.Spans.{lengthOfText, parameterOk, parametersOk}
 use Rattle.sequence_check.specs.Sequences.{sizeAt}
 use Rattle.tables.proofs.Lists.{all-run, flat-runs, length-flat, inAll-flat, inAll-le, inAll-run}
-use Rattle.event_check.proofs.EventTests.{words-range, code-back, count-back, set-back, clear-back, flags-word-back, low-word-back, high-word-back}
+use Rattle.event_check.proofs.EventTests.{words-range, words-back, code-back, count-back}
 use Rattle.tables.proofs.Sizes.{eventSize, length-expanded}
 use Rattle.tables.proofs.Facts.{facts-fit, facts-text, facts-call, facts-production, facts-limit}
 use Rattle.table_check.proofs.CheckFacts.{CheckFacts, events-within, calls-within}
-use Rattle.header_check.proofs.HeaderFacts.{HeaderFacts}
-use Rattle.header_check.proofs.UnusedFacts.{RestFacts}
+use Rattle.header_check.proofs.UnusedFacts.{Rests, none, more, used}
+use Rattle.tables.proofs.Columns.{consed, spread, reach}
 use Rattle.span_check.proofs.CallWords.{CallWordFacts}
 
 directive-back : (w : ℕ) → w ≤ 2 → directiveWord (directiveFromWord w) ≡ w
@@ -58,9 +58,6 @@ mark-allowed (suc zero) (suc zero) h b = refl
 mark-allowed (suc k) zero h b = absurd (omega arith)
 mark-allowed (suc (suc k)) (suc zero) h b = absurd (omega arith)
 mark-allowed k (suc (suc m)) h b = absurd (omega arith)
-
-consed : {A : Type 0} {x y : A} {xs ys : List A} → x ≡ y → xs ≡ ys → (x ∷ xs) ≡ (y ∷ ys)
-consed p q = rw (p, q)
 
 module _ (l : List ℕ) where
   -- ---- Sections as runs of words
@@ -87,15 +84,22 @@ module _ (l : List ℕ) where
   runs (c ∷ cs) [] s = []
   runs (c ∷ cs) (n ∷ ns) s = run (wordAt l) s n ∷ runs cs ns (s + c)
 
-  data Padded : (cs ns : List ℕ) → ℕ → Type 0 where
-    none : {s : ℕ} → Padded [] [] s
-    more : {c n s : ℕ} {cs ns : List ℕ} → padded c (run (wordAt l) s n) ≡ run (wordAt l) s c → Padded cs ns (s + c) → Padded (c ∷ cs) (n ∷ ns) s
-
-  joined-runs : (cs ns : List ℕ) (s : ℕ) → Padded cs ns s → joinedSections cs (runs cs ns s) ≡ run (wordAt l) s (offset cs (length cs))
+  joined-runs : (cs ns : List ℕ) (s : ℕ) → Rests l cs ns s → joinedSections cs (runs cs ns s) ≡ run (wordAt l) s (offset cs (length cs))
   unfolding joinedSections run
   joined-runs [] [] s none = refl
-  joined-runs (c ∷ cs) (n ∷ ns) s (more e r) =
-      rw (e, joined-runs cs ns (s + c) r) (sym (run-append (wordAt l) s c (offset cs (length cs))))
+  joined-runs (c ∷ cs) (n ∷ ns) s (more h z r) =
+      rw (padded-run s c n h z, joined-runs cs ns (s + c) r) (sym (run-append (wordAt l) s c (offset cs (length cs))))
+
+  -- fields of n entries, each of which has these words again
+  columns-runs : {A : Type 0} (c : ℕ) (f : ℕ → A) (n : ℕ) (gs : List (A → ℕ)) (s e : ℕ) (cs ns : List ℕ) (ss : List (List ℕ)) → e ≡ s + reach c (length gs)
+      → ((i : ℕ) → i < n → map (λ (g : A → ℕ). g (f i)) gs ≡ spread (wordAt l) c (length gs) s i)
+      → ss ≡ runs cs ns e
+      → (columns gs (run f 0 n) ++ ss) ≡ runs (forEach gs c ++ cs) (forEach gs n ++ ns) s
+  unfolding columns spread reach
+  columns-runs c f n [] s e cs ns ss p back q = q ∙ ap (runs cs ns) (p ∙ add-zero s)
+  columns-runs c f n (g ∷ gs) s e cs ns ss p back q =
+      consed (section-run g f s n (λ i h. ap (λ (ws : List ℕ). getD ws 0 0) (back i h)))
+      (columns-runs c f n gs (s + c) e cs ns ss (p ∙ sym (add-assoc s c (reach c (length gs)))) (λ i h. ap (drop 1) (back i h)) q)
 
 module _ (l : List ℕ) (bytes : (i : ℕ) → getD l i 0 < 256) (facts : CheckFacts l) where
   abbrev t : Table
@@ -136,78 +140,22 @@ module _ (l : List ℕ) (bytes : (i : ℕ) → getD l i 0 < 256) (facts : CheckF
       section-run l (λ (p : Production). length (p .calls)) (productionEntry l) productionCallsAt (wordAt l 4)
       (λ i h. length-run (callEntry l) (firstCall l i) (wordAt l (productionCallsAt + i)))
 
-  codes : map (λ (e : KeptEvent). e .code) (allEvents (decode l .productions)) ≡ run (wordAt l) codesAt (wordAt l 5)
-  unfolding eventEntry eventOk
-  codes =
-      ap (map (λ (e : KeptEvent). e .code)) events-flat
-      ∙ section-run l (λ (e : KeptEvent). e .code) (eventEntry l) codesAt (wordAt l 5)
-      (λ i h. code-back (wordAt l (codesAt + i)) (wordAt l (countsAt + i)) (wordAt l (setsAt + i)) (wordAt l (clearsAt + i)) (wordAt l (flagsAt + i)) (wordAt l (lowsAt + i)) (wordAt l (highsAt + i)) (facts .events i h) (word-below l bytes (lowsAt + i)))
+  event-back : (i : ℕ) → i < wordAt l 5 → map (λ (f : KeptEvent → ℕ). f (eventEntry l i)) eventFields ≡ spread (wordAt l) 256 (length eventFields) codesAt i
+  unfolding eventEntry eventOk spread
+  event-back i h =
+      words-back (wordAt l (codesAt + i)) (wordAt l (countsAt + i)) (wordAt l (setsAt + i)) (wordAt l (clearsAt + i)) (wordAt l (flagsAt + i)) (wordAt l (lowsAt + i)) (wordAt l (highsAt + i)) (facts .events i h) (word-below l bytes (lowsAt + i))
 
-  counts : map (λ (e : KeptEvent). e .count) (allEvents (decode l .productions)) ≡ run (wordAt l) countsAt (wordAt l 5)
-  unfolding eventEntry eventOk
-  counts =
-      ap (map (λ (e : KeptEvent). e .count)) events-flat
-      ∙ section-run l (λ (e : KeptEvent). e .count) (eventEntry l) countsAt (wordAt l 5)
-      (λ i h. count-back (wordAt l (codesAt + i)) (wordAt l (countsAt + i)) (wordAt l (setsAt + i)) (wordAt l (clearsAt + i)) (wordAt l (flagsAt + i)) (wordAt l (lowsAt + i)) (wordAt l (highsAt + i)) (facts .events i h) (word-below l bytes (lowsAt + i)))
+  call-back : (i : ℕ) → i < wordAt l 6 → map (λ (f : Call → ℕ). f (callEntry l i)) callFields ≡ spread (wordAt l) 128 (length callFields) marksAt i
+  unfolding callEntry markEntry nameEntry callParameters spread
+  call-back i h =
+      consed (flag-back (wordAt l (marksAt + i)) (let m = facts .calls i h .mark in let b = facts .header .merged in omega arith))
+      (consed refl
+      (consed refl
+      (consed (length-run (parameterEntry l) (firstParameter l i) (wordAt l (callParametersAt + i))) refl)))
 
-  sets : map (λ (e : KeptEvent). e .set) (allEvents (decode l .productions)) ≡ run (wordAt l) setsAt (wordAt l 5)
-  unfolding eventEntry eventOk
-  sets =
-      ap (map (λ (e : KeptEvent). e .set)) events-flat
-      ∙ section-run l (λ (e : KeptEvent). e .set) (eventEntry l) setsAt (wordAt l 5)
-      (λ i h. set-back (wordAt l (codesAt + i)) (wordAt l (countsAt + i)) (wordAt l (setsAt + i)) (wordAt l (clearsAt + i)) (wordAt l (flagsAt + i)) (wordAt l (lowsAt + i)) (wordAt l (highsAt + i)) (facts .events i h) (word-below l bytes (lowsAt + i)))
-
-  clears : map (λ (e : KeptEvent). e .clear) (allEvents (decode l .productions)) ≡ run (wordAt l) clearsAt (wordAt l 5)
-  unfolding eventEntry eventOk
-  clears =
-      ap (map (λ (e : KeptEvent). e .clear)) events-flat
-      ∙ section-run l (λ (e : KeptEvent). e .clear) (eventEntry l) clearsAt (wordAt l 5)
-      (λ i h. clear-back (wordAt l (codesAt + i)) (wordAt l (countsAt + i)) (wordAt l (setsAt + i)) (wordAt l (clearsAt + i)) (wordAt l (flagsAt + i)) (wordAt l (lowsAt + i)) (wordAt l (highsAt + i)) (facts .events i h) (word-below l bytes (lowsAt + i)))
-
-  flags : map flagsWord (allEvents (decode l .productions)) ≡ run (wordAt l) flagsAt (wordAt l 5)
-  unfolding eventEntry eventOk
-  flags =
-      ap (map flagsWord) events-flat
-      ∙ section-run l flagsWord (eventEntry l) flagsAt (wordAt l 5)
-      (λ i h. flags-word-back (wordAt l (codesAt + i)) (wordAt l (countsAt + i)) (wordAt l (setsAt + i)) (wordAt l (clearsAt + i)) (wordAt l (flagsAt + i)) (wordAt l (lowsAt + i)) (wordAt l (highsAt + i)) (facts .events i h) (word-below l bytes (lowsAt + i)))
-
-  lows : map lowWord (allEvents (decode l .productions)) ≡ run (wordAt l) lowsAt (wordAt l 5)
-  unfolding eventEntry eventOk
-  lows =
-      ap (map lowWord) events-flat
-      ∙ section-run l lowWord (eventEntry l) lowsAt (wordAt l 5)
-      (λ i h. low-word-back (wordAt l (codesAt + i)) (wordAt l (countsAt + i)) (wordAt l (setsAt + i)) (wordAt l (clearsAt + i)) (wordAt l (flagsAt + i)) (wordAt l (lowsAt + i)) (wordAt l (highsAt + i)) (facts .events i h) (word-below l bytes (lowsAt + i)))
-
-  highs : map highWord (allEvents (decode l .productions)) ≡ run (wordAt l) highsAt (wordAt l 5)
-  unfolding eventEntry eventOk
-  highs =
-      ap (map highWord) events-flat
-      ∙ section-run l highWord (eventEntry l) highsAt (wordAt l 5)
-      (λ i h. high-word-back (wordAt l (codesAt + i)) (wordAt l (countsAt + i)) (wordAt l (setsAt + i)) (wordAt l (clearsAt + i)) (wordAt l (flagsAt + i)) (wordAt l (lowsAt + i)) (wordAt l (highsAt + i)) (facts .events i h) (word-below l bytes (lowsAt + i)))
-
-  marks : map markWord (allCalls (decode l .productions)) ≡ run (wordAt l) marksAt (wordAt l 6)
-  unfolding callEntry markEntry
-  marks = ap (map markWord) calls-flat ∙ section-run l markWord (callEntry l) marksAt (wordAt l 6) (λ i h. flag-back (wordAt l (marksAt + i)) (let m = facts .calls i h .mark in let b = facts .header .merged in omega arith))
-
-  name-starts : map (λ (c : Call). c .name .start) (allCalls (decode l .productions)) ≡ run (wordAt l) nameStartsAt (wordAt l 6)
-  unfolding callEntry nameEntry
-  name-starts = ap (map (λ (c : Call). c .name .start)) calls-flat ∙ section-run l (λ (c : Call). c .name .start) (callEntry l) nameStartsAt (wordAt l 6) (λ i h. refl)
-
-  name-lengths : map (λ (c : Call). c .name .len) (allCalls (decode l .productions)) ≡ run (wordAt l) nameLengthsAt (wordAt l 6)
-  unfolding callEntry nameEntry
-  name-lengths = ap (map (λ (c : Call). c .name .len)) calls-flat ∙ section-run l (λ (c : Call). c .name .len) (callEntry l) nameLengthsAt (wordAt l 6) (λ i h. refl)
-
-  call-parameters : map (λ (c : Call). length (c .parameters)) (allCalls (decode l .productions)) ≡ run (wordAt l) callParametersAt (wordAt l 6)
-  unfolding callEntry callParameters
-  call-parameters = ap (map (λ (c : Call). length (c .parameters))) calls-flat ∙ section-run l (λ (c : Call). length (c .parameters)) (callEntry l) callParametersAt (wordAt l 6) (λ i h. length-run (parameterEntry l) (firstParameter l i) (wordAt l (callParametersAt + i)))
-
-  parameter-starts : map (λ (s : Span). s .start) (allParameters (allCalls (decode l .productions))) ≡ run (wordAt l) parameterStartsAt (wordAt l 7)
-  unfolding parameterEntry
-  parameter-starts = ap (map (λ (s : Span). s .start)) parameters-flat ∙ section-run l (λ (s : Span). s .start) (parameterEntry l) parameterStartsAt (wordAt l 7) (λ i h. refl)
-
-  parameter-lengths : map (λ (s : Span). s .len) (allParameters (allCalls (decode l .productions))) ≡ run (wordAt l) parameterLengthsAt (wordAt l 7)
-  unfolding parameterEntry
-  parameter-lengths = ap (map (λ (s : Span). s .len)) parameters-flat ∙ section-run l (λ (s : Span). s .len) (parameterEntry l) parameterLengthsAt (wordAt l 7) (λ i h. refl)
+  parameter-back : (i : ℕ) → i < wordAt l 7 → map (λ (f : Span → ℕ). f (parameterEntry l i)) parameterFields ≡ spread (wordAt l) 256 (length parameterFields) parameterStartsAt i
+  unfolding parameterEntry spread
+  parameter-back i h = refl
 
   header-run : headerOf (decode l) ≡ run (wordAt l) 0 8
   unfolding headerOf decode directiveIn mergedIn firstLengthIn secondLengthIn productionTotal run
@@ -221,66 +169,25 @@ module _ (l : List ℕ) (bytes : (i : ℕ) → getD l i 0 < 256) (facts : CheckF
       (consed (ap length calls-flat ∙ length-run (callEntry l) 0 (wordAt l 6))
       (consed (ap length parameters-flat ∙ length-run (parameterEntry l) 0 (wordAt l 7)) refl)))))))
 
-  abbrev used : List ℕ
-  used =
-      8
-      ∷ wordAt l 4 ∷ wordAt l 4
-      ∷ wordAt l 5 ∷ wordAt l 5 ∷ wordAt l 5 ∷ wordAt l 5 ∷ wordAt l 5 ∷ wordAt l 5 ∷ wordAt l 5
-      ∷ wordAt l 6 ∷ wordAt l 6 ∷ wordAt l 6 ∷ wordAt l 6
-      ∷ wordAt l 7 ∷ wordAt l 7
-      ∷ []
-
-  sections-runs : sectionsOf (entriesOf (decode l)) ≡ runs l capacities used 0
-  unfolding sectionsOf entriesOf
+  sections-runs : sectionsOf (entriesOf (decode l)) ≡ runs l capacities (used l) 0
+  unfolding sectionsOf entriesOf columns reach
   sections-runs =
       consed header-run
       (consed production-events
       (consed production-calls
-      (consed codes
-      (consed counts
-      (consed sets
-      (consed clears
-      (consed flags
-      (consed lows
-      (consed highs
-      (consed marks
-      (consed name-starts
-      (consed name-lengths
-      (consed call-parameters
-      (consed parameter-starts
-      (consed parameter-lengths refl)))))))))))))))
-
-  header-padded : padded 8 (run (wordAt l) 0 8) ≡ run (wordAt l) 0 8
-  unfolding restZero every
-  header-padded = padded-run l 0 8 8 (omega arith) refl
-
-  rests-padded : Padded l capacities used 0
-  rests-padded =
-      let r : RestFacts l = facts .rests in
-      let h : HeaderFacts l = facts .header in
-      more header-padded
-      (more (padded-run l productionEventsAt 64 (wordAt l 4) (h .productions) (r .productionEvents))
-      (more (padded-run l productionCallsAt 64 (wordAt l 4) (h .productions) (r .productionCalls))
-      (more (padded-run l codesAt 256 (wordAt l 5) (h .events) (r .codes))
-      (more (padded-run l countsAt 256 (wordAt l 5) (h .events) (r .counts))
-      (more (padded-run l setsAt 256 (wordAt l 5) (h .events) (r .sets))
-      (more (padded-run l clearsAt 256 (wordAt l 5) (h .events) (r .clears))
-      (more (padded-run l flagsAt 256 (wordAt l 5) (h .events) (r .flags))
-      (more (padded-run l lowsAt 256 (wordAt l 5) (h .events) (r .lows))
-      (more (padded-run l highsAt 256 (wordAt l 5) (h .events) (r .highs))
-      (more (padded-run l marksAt 128 (wordAt l 6) (h .calls) (r .marks))
-      (more (padded-run l nameStartsAt 128 (wordAt l 6) (h .calls) (r .nameStarts))
-      (more (padded-run l nameLengthsAt 128 (wordAt l 6) (h .calls) (r .nameLengths))
-      (more (padded-run l callParametersAt 128 (wordAt l 6) (h .calls) (r .callParameters))
-      (more (padded-run l parameterStartsAt 256 (wordAt l 7) (h .parameters) (r .parameterStarts))
-      (more (padded-run l parameterLengthsAt 256 (wordAt l 7) (h .parameters) (r .parameterLengths)) none)))))))))))))))
+      (ap (λ (es : List KeptEvent). columns eventFields es ++ (columns callFields (allCalls (decode l .productions)) ++ columns parameterFields (allParameters (allCalls (decode l .productions))))) events-flat
+      ∙ ap (λ (cs : List Call). columns eventFields (run (eventEntry l) 0 (wordAt l 5)) ++ (columns callFields cs ++ columns parameterFields (allParameters (allCalls (decode l .productions))))) calls-flat
+      ∙ ap (λ (rs : List Span). columns eventFields (run (eventEntry l) 0 (wordAt l 5)) ++ (columns callFields (run (callEntry l) 0 (wordAt l 6)) ++ columns parameterFields rs)) parameters-flat
+      ∙ columns-runs l 256 (eventEntry l) (wordAt l 5) eventFields codesAt marksAt (forEach callFields 128 ++ forEach parameterFields 256) (forEach callFields (wordAt l 6) ++ forEach parameterFields (wordAt l 7)) (columns callFields (run (callEntry l) 0 (wordAt l 6)) ++ columns parameterFields (run (parameterEntry l) 0 (wordAt l 7))) refl event-back
+      (columns-runs l 128 (callEntry l) (wordAt l 6) callFields marksAt parameterStartsAt (forEach parameterFields 256) (forEach parameterFields (wordAt l 7)) (columns parameterFields (run (parameterEntry l) 0 (wordAt l 7))) refl call-back
+      (columns-runs l 256 (parameterEntry l) (wordAt l 7) parameterFields parameterStartsAt 2952 [] [] [] refl parameter-back refl)))))
 
   -- the bytes are those of the table
   pub bytes-same : take tableLength l ≡ encode (decode l)
   unfolding encode image
   bytes-same =
       bytes-run l 0 2952 bytes (facts .long)
-      ∙ sym (ap (λ (ss : List (List ℕ)). wordBytes (joinedSections capacities ss)) sections-runs ∙ ap wordBytes (joined-runs l capacities used 0 rests-padded))
+      ∙ sym (ap (λ (ss : List (List ℕ)). wordBytes (joinedSections capacities ss)) sections-runs ∙ ap wordBytes (joined-runs l capacities (used l) 0 (facts .rests)))
 
   -- ---- The table fits
 

@@ -8,8 +8,9 @@ use Rattle.words.proofs.Bools.{same-test}
 use Rattle.tables.specs.Layout.{tableLength}
 use Rattle.tables.specs.Reading.{decode}
 use Rattle.tables.specs.Whole.{whole}
+use Rattle.tables.specs.Laws.{Holds}
 use Rattle.table_check.specs.Checks.{checks}
-use Rattle.tables.proofs.Theorems.{Holds, whole-holds, holds-split, holds-whole}
+use Rattle.tables.proofs.Theorems.{whole-holds, holds-split, holds-whole}
 use Rattle.table_check.proofs.Checked.{checks-encode}
 use Rattle.table_check.proofs.CheckFacts.{CheckFacts, check-facts}
 use Rattle.table_check.proofs.Decoded.{bytes-same, table-fits}

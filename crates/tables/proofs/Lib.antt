@@ -3,6 +3,7 @@ pub mod Lists
 pub mod EventWords
 pub mod Sizes
 pub mod Facts
+pub mod Columns
 pub mod Images
 pub mod Encoded
 pub mod Theorems
@@ -14,3 +15,4 @@ pub mod JudgedRange
 pub mod CompiledFits
 pub mod AcceptedFits
 pub mod MergedFits
+pub mod Example

@@ -1,5 +1,6 @@
 -- `table_check::entries_ok` meets its contract.
 use borrow.Author.Needs.{needs}
+use native.Mathlib.Omega.{arith}
 use mathlib.Core.Path.{_≡_, sym, _∙_}
 use mathlib.Core.Bool.{true, false}
 use lib.Dec.{eqb}
@@ -57,7 +58,7 @@ returns-3 : tie.Need-returns-3
 returns-3 c =
     let ca : every (callOk (c .before .before .before .before .before .before .before .before .before .before .before .before .before .args .l .now)) 0 (c .before .before .before .before .before .before .before .before .before .word-at3 .result) ≡ true = sym (c .before .before .before .before .calls-tally .ensures .0) ∙ not-false (c .before .before .before .before .calls-tally .result .ok) (c .before .before .if2 .left) in
     let t : c .before .before .before .before .calls-tally .result .total ≡ total (wordAt (c .before .before .before .before .before .before .before .before .before .before .before .before .before .args .l .now)) callParametersAt (c .before .before .before .before .before .before .before .before .before .word-at3 .result) = c .before .before .before .before .calls-tally .ensures .1 ∙ low-parameters (c .before .before .before .before .before .before .before .before .before .before .before .before .before .args .l .now) (c .before .before .before .before .before .before .before .before .before .word-at3 .result) ca in
-    let ne : eqb (total (wordAt (c .before .before .before .before .before .before .before .before .before .before .before .before .before .args .l .now)) callParametersAt (wordAt (c .before .before .before .before .before .before .before .before .before .before .before .before .before .args .l .now) 6)) (wordAt (c .before .before .before .before .before .before .before .before .before .before .before .before .before .args .l .now) 7) ≡ false = rw (← c .before .before .before .before .before .before .before .before .before .word-at3 .ensures, ← t, ← c .before .before .before .before .before .before .before .before .word-at4 .ensures) (ne-eqb _ _ (c .if3 .taken)) in
+    let ne : eqb (total (wordAt (c .before .before .before .before .before .before .before .before .before .before .before .before .before .args .l .now)) callParametersAt (wordAt (c .before .before .before .before .before .before .before .before .before .before .before .before .before .args .l .now) 6)) (wordAt (c .before .before .before .before .before .before .before .before .before .before .before .before .before .args .l .now) 7) ≡ false = rw (← c .before .before .before .before .before .before .before .before .before .word-at3 .ensures, ← t, ← c .before .before .before .before .before .before .before .before .word-at4 .ensures) (ne-eqb (c .before .before .before .before .calls-tally .result .total) (c .before .before .before .before .before .before .before .before .word-at4 .result) (λ z. omega (arith, z, c .if3 .taken))) in
     sym (entries-parameters (c .before .before .before .before .before .before .before .before .before .before .before .before .before .args .l .now) ne)
 
 cast-spans-ok : tie.Need-cast-spans-ok
@@ -65,8 +66,9 @@ cast-spans-ok c = search needs
 
 spans-ok-requires : tie.Need-spans-ok-requires
 spans-ok-requires c κs =
+    let same : c .before .before .before .before .calls-tally .result .total ≡ c .before .before .before .before .before .before .before .before .word-at4 .result = omega (arith, c .if3 .left) in
     let ca : every (callOk (c .before .before .before .before .before .before .before .before .before .before .before .before .before .args .l .now)) 0 (c .before .before .before .before .before .before .before .before .before .word-at3 .result) ≡ true = sym (c .before .before .before .before .calls-tally .ensures .0) ∙ not-false (c .before .before .before .before .calls-tally .result .ok) (c .before .before .if2 .left) in
-    let t : total (wordAt (c .before .before .before .before .before .before .before .before .before .before .before .before .before .args .l .now)) callParametersAt (c .before .before .before .before .before .before .before .before .before .word-at3 .result) ≡ c .before .before .before .before .before .before .before .before .word-at4 .result = sym (low-parameters (c .before .before .before .before .before .before .before .before .before .before .before .before .before .args .l .now) (c .before .before .before .before .before .before .before .before .before .word-at3 .result) ca) ∙ sym (c .before .before .before .before .calls-tally .ensures .1) ∙ c .if3 .left in
+    let t : total (wordAt (c .before .before .before .before .before .before .before .before .before .before .before .before .before .args .l .now)) callParametersAt (c .before .before .before .before .before .before .before .before .before .word-at3 .result) ≡ c .before .before .before .before .before .before .before .before .word-at4 .result = sym (low-parameters (c .before .before .before .before .before .before .before .before .before .before .before .before .before .args .l .now) (c .before .before .before .before .before .before .before .before .before .word-at3 .result) ca) ∙ sym (c .before .before .before .before .calls-tally .ensures .1) ∙ same in
     ((search needs, search needs), (t, search needs, ca, search needs))
 
 cast-sequences-ok : tie.Need-cast-sequences-ok
