@@ -4,8 +4,8 @@ use native.Mathlib.Omega.{arith}
 use mathlib.Core.Path.{_≡_, refl, ap, _∙_}
 use mathlib.Core.Bool.{Bool, true, false}
 use mathlib.Core.Option.{Option, none, some}
-use mathlib.Core.List.{List, _++_, map}
-use lib.ListN.{length, take, drop, length-map}
+use mathlib.Core.List.{List, _++_, map, append-assoc}
+use lib.ListN.{length, take, drop, length-append, length-map}
 use Rattle.model.specs.Calls.{WrittenCall}
 use Rattle.model.specs.Tables.{Call, Production, Table}
 use Rattle.model.specs.Compiling.{inText, compiled, accepted}
@@ -51,6 +51,12 @@ unfolding partOf
 part-by first second true s = refl
 part-by first second false s = refl
 
+-- a text with more after it
+more-after : (m : Bool) (first second moreFirst moreSecond : List ℕ)
+    → textOfMark m (first ++ moreFirst) (second ++ moreSecond) ≡ textOfMark m first second ++ textOfMark m moreFirst moreSecond
+more-after true first second moreFirst moreSecond = refl
+more-after false first second moreFirst moreSecond = refl
+
 module _ (t : Table) (table first second : List ℕ) (reads : ReadsTable t table first second) (p : ℕ) where
   module _ (q : Production) (e : at (t .productions) p ≡ some q) (m : Bool) (line : Derived) (c : q .calls ≡ callsOfLine m line) where
     there : (k : ℕ) → askedCall t p k ≡ at (callsOfLine m line) k
@@ -67,11 +73,16 @@ module _ (t : Table) (table first second : List ℕ) (reads : ReadsTable t table
           parameter = λ k i. reads .parameter p k i ∙ ap (λ (o : Option Call). parameterOf o i) (there k);
         }
 
-    module _ (n : ℕ) (h : TextHas (textOfMark m first second) n line) where
+    module _ (text more : List ℕ) (lent : textOfMark m first second ≡ text ++ more) (n : ℕ) (h : TextHas text n line) where
+      lent-split : textOfMark m first second ≡ h .before ++ (h .bytes ++ (h .after ++ more))
+      lent-split =
+          lent ∙ ap {B = List ℕ} (λ x. x ++ more) (h .split) ∙ append-assoc (h .before) (h .bytes ++ h .after) more
+          ∙ ap {B = List ℕ} (λ x. h .before ++ x) (append-assoc (h .bytes) (h .after) more)
+
       place-bytes : (s : Span) → s .start + s .len ≤ length (h .bytes) → partOf first second (located m (inText (line .start) s)) ≡ partOfLine (h .bytes) s
       place-bytes s w =
           part-by first second m (inText (line .start) s)
-          ∙ part-there (textOfMark m first second) (h .before) (h .bytes) (h .after) (line .start) s (h .split) (h .start) w
+          ∙ part-there (textOfMark m first second) (h .before) (h .bytes) (h .after ++ more) (line .start) s lent-split (h .start) w
 
       call-there : (k : ℕ) (call : WrittenCall) → at (line .calls) k ≡ some call
           → at (callsOfLine m line) k ≡ some (record { second = m; name = inText (line .start) (call .name); parameters = map (inText (line .start)) (call .parameters) })
@@ -108,32 +119,47 @@ module _ (t : Table) (table first second : List ℕ) (reads : ReadsTable t table
 
 -- ---- All of them
 
-module _ (t : Table) (first second rest : List ℕ) (c : CameFrom t first second) where
-  pub reads-fitting : ReadsTable t (encode t ++ rest) first second
-  reads-fitting = reads-table t (accepted-fits (round-trip .accepted t first second c)) first second rest (first-length c) (second-length c)
+module _ (t : Table) (first second : List ℕ) (c : CameFrom t first second) where
+  pub reads-fitting : (rest lentFirst lentSecond : List ℕ) → length first ≤ length lentFirst → length second ≤ length lentSecond
+      → ReadsTable t (encode t ++ rest) lentFirst lentSecond
+  reads-fitting rest lentFirst lentSecond h k =
+      let a = first-length c in
+      let b = second-length c in
+      reads-table t (accepted-fits (round-trip .accepted t first second c)) lentFirst lentSecond rest (omega arith) (omega arith)
 
-  reads-production : (p : ℕ) → p < length (t .productions) → ReadsProduction t (encode t ++ rest) first second p
-  reads-production p h =
-      let x = at-there (t .productions) p h in
-      let f : Found first second t p (x .0) = found c p (x .0) (x .1) in
-      record {
-        mark = f .mark;
-        number = f .number;
-        source = f .source;
-        line = f .line;
-        has = f .has;
-        reads = reads-line t (encode t ++ rest) first second reads-fitting p (x .0) (x .1) (f .mark) (f .line) (f .calls);
-        bytes = reads-bytes t (encode t ++ rest) first second reads-fitting p (x .0) (x .1) (f .mark) (f .line) (f .calls) (f .number) (f .has);
-      }
+  module _ (rest moreFirst moreSecond : List ℕ) where
+    reads : ReadsTable t (encode t ++ rest) (first ++ moreFirst) (second ++ moreSecond)
+    reads =
+        reads-fitting rest (first ++ moreFirst) (second ++ moreSecond) (omega (arith, length-append first moreFirst))
+        (omega (arith, length-append second moreSecond))
 
-  reads-all : ReadsAll t (encode t ++ rest) first second
-  unfolding productionCount
-  reads-all =
-      record {
-        count = reads-fitting .productions;
-        production = reads-production;
-        absent = λ p h. reads-none t (encode t ++ rest) first second reads-fitting p (at-past (t .productions) p h);
-      }
+    reads-production : (p : ℕ) → p < length (t .productions)
+        → ReadsProduction t first second (encode t ++ rest) (first ++ moreFirst) (second ++ moreSecond) p
+    reads-production p h =
+        let x = at-there (t .productions) p h in
+        let f : Found first second t p (x .0) = found c p (x .0) (x .1) in
+        record {
+          mark = f .mark;
+          number = f .number;
+          source = f .source;
+          line = f .line;
+          has = f .has;
+          reads =
+              reads-line t (encode t ++ rest) (first ++ moreFirst) (second ++ moreSecond) reads p (x .0) (x .1) (f .mark) (f .line) (f .calls);
+          bytes =
+              reads-bytes t (encode t ++ rest) (first ++ moreFirst) (second ++ moreSecond) reads p (x .0) (x .1) (f .mark) (f .line) (f .calls)
+              (textOfMark (f .mark) first second) (textOfMark (f .mark) moreFirst moreSecond)
+              (more-after (f .mark) first second moreFirst moreSecond) (f .number) (f .has);
+        }
+
+    reads-all : ReadsAll t first second (encode t ++ rest) (first ++ moreFirst) (second ++ moreSecond)
+    unfolding productionCount
+    reads-all =
+        record {
+          count = reads .productions;
+          production = reads-production;
+          absent = λ p h. reads-none t (encode t ++ rest) (first ++ moreFirst) (second ++ moreSecond) reads p (at-past (t .productions) p h);
+        }
 
 pub read-out : ReadOut
-read-out t first second rest c = reads-all t first second rest c
+read-out t first second c rest moreFirst moreSecond = reads-all t first second c rest moreFirst moreSecond

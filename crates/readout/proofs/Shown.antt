@@ -1,5 +1,6 @@
 -- The calls that document 01 writes out are read as it says: the texts compile by computation.
 use Prim.Native.Nat.{ℕ, zero, suc}
+use native.Mathlib.Omega.{arith}
 use mathlib.Core.Path.{_≡_, refl, sym, ap, _∙_}
 use mathlib.Core.List.{List, [], _∷_, _++_, map}
 use mathlib.Core.Bool.{false}
@@ -78,7 +79,7 @@ first-mark text t e c (some p) q f =
 
 module _ (text : List ℕ) (t : Table) (e : compiled text ≡ accepted t) (c : Call) (asked : askedCall t 0 0 ≡ some c) where
   reads : (rest second : List ℕ) → ReadsTable t (encode t ++ rest) text second
-  reads rest second = reads-fitting t text second rest (CameFrom.compiling e)
+  reads rest second = reads-fitting t text second (CameFrom.compiling e) rest text second (omega arith) (omega arith)
 
   mark : c .second ≡ false
   unfolding askedCall askedProduction

@@ -96,14 +96,14 @@ pub record ReadsBytes (table first second : List ℕ) (p : ℕ) (line : Derived)
       → parameterPart table first second p c k ≡ partOfLine bytes s
 
 -- of production p of a table that came from texts: it came from a line of one of them, and the reader gives that line's calls
-pub record ReadsProduction (t : Table) (table first second : List ℕ) (p : ℕ) : Type 0 where
+pub record ReadsProduction (t : Table) (first second table lentFirst lentSecond : List ℕ) (p : ℕ) : Type 0 where
   pub mark : Bool
   pub number : ℕ
   pub source : Source first second t p mark number
   pub line : Derived
   pub has : TextHas (textOfMark mark first second) number line
-  pub reads : ReadsLine table first second p mark line
-  pub bytes : ReadsBytes table first second p line (has .bytes)
+  pub reads : ReadsLine table lentFirst lentSecond p mark line
+  pub bytes : ReadsBytes table lentFirst lentSecond p line (has .bytes)
 
 -- "16: production, call or parameter asked for isn't there"
 pub record ReadsNone (table first second : List ℕ) (p : ℕ) : Type 0 where
@@ -112,13 +112,14 @@ pub record ReadsNone (table first second : List ℕ) (p : ℕ) : Type 0 where
   pub parameters : (c : ℕ) → parametersAnswer table p c ≡ Counted.Refused notThere
   pub parameter : (c k : ℕ) → parameterAnswer table first second p c k ≡ Located.Refused notThere
 
-pub record ReadsAll (t : Table) (table first second : List ℕ) : Type 0 where
+pub record ReadsAll (t : Table) (first second table lentFirst lentSecond : List ℕ) : Type 0 where
   pub count : productionsAnswer table ≡ Counted.Accepted (length (t .productions))
-  pub production : (p : ℕ) → p < length (t .productions) → ReadsProduction t table first second p
-  pub absent : (p : ℕ) → length (t .productions) ≤ p → ReadsNone table first second p
+  pub production : (p : ℕ) → p < length (t .productions) → ReadsProduction t first second table lentFirst lentSecond p
+  pub absent : (p : ℕ) → length (t .productions) ≤ p → ReadsNone table lentFirst lentSecond p
 
--- for every accepted table, merged or not, lent as its bytes, whatever stands after them, with the texts that it came from; that
--- every accepted table came from texts is `texts` of roundtrip's RoundTrip
+-- for every accepted table, merged or not, lent as its bytes with the texts that it came from, whatever stands after each of the
+-- three; that every accepted table came from texts is `texts` of roundtrip's RoundTrip
 abbrev pub ReadOut : Type 0
 ReadOut =
-    (t : Table) (first second rest : List ℕ) → CameFrom t first second → ReadsAll t (encode t ++ rest) first second
+    (t : Table) (first second : List ℕ) → CameFrom t first second → (rest moreFirst moreSecond : List ℕ)
+    → ReadsAll t first second (encode t ++ rest) (first ++ moreFirst) (second ++ moreSecond)
