@@ -1,3 +1,2 @@
-pub mod RunJoined
-pub mod ReadyFacts
+pub mod ProductionSteps
 pub mod Outcome

@@ -1,5 +1,4 @@
 // The canonical text of a table, written into lent bytes.
-mod calls;
 mod productions;
 
 use model::answers::Written;
@@ -7,7 +6,7 @@ ghost use mathlib.Core.Path.{_≡_};
 ghost use Prim.Native.Nat.{_≤_};
 ghost use lib.ListN.{length};
 ghost use Rattle.model.specs.Numbers.{writtenNumber, writtenLength};
-ghost use Rattle.printer.specs.Ready.{WriteReady};
+ghost use Rattle.call_text.specs.Ready.{WriteReady};
 ghost use Rattle.printer.specs.Write.{textWritten, writeNumber, writeLength, written, writtenBytes};
 
 // The length of the text: what writing it into one byte returns.

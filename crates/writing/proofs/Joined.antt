@@ -8,7 +8,7 @@ use lib.Dec.{ltb}
 use borrow.Author.Tests.{lt-ltb}
 use lib.ListN.{length, getD}
 use Rattle.words.specs.Runs.{run, every}
-use Rattle.words.proofs.RunLaws.{run-last, getD-run}
+use Rattle.words.proofs.RunLaws.{run-last, run-more, getD-run, length-run}
 use Rattle.model.specs.Lists.{all, those}
 use Rattle.model.specs.Canonical.{joinedBy, each}
 use Rattle.writing.specs.Overlay.{separator}
@@ -51,3 +51,15 @@ all-every test (suc n) =
     ap (all test) (run-last (λ (i : ℕ). i) 0 n)
     ∙ all-more test (run (λ i. i) 0 n) (0 + n)
     ∙ ap (λ (b : Bool). b && test (0 + n)) (all-every test n)
+
+-- texts of a run that are joined, one more at a time
+module _ {A : Type 0} (w : A → List ℕ) (b : ℕ) (f : ℕ → A) (s : ℕ) where
+  pub run-joined-none : [] ≡ joinedBy (b ∷ []) (each w (run f s 0))
+  unfolding run joinedBy
+  run-joined-none = refl
+
+  pub run-joined : (k : ℕ) → joinedBy (b ∷ []) (each w (run f s k)) ++ (separator b k ++ w (f (s + k))) ≡ joinedBy (b ∷ []) (each w (run f s (k + 1)))
+  run-joined k =
+      ap (λ (n : ℕ). joinedBy (b ∷ []) (each w (run f s k)) ++ (separator b n ++ w (f (s + k)))) (sym (length-run f s k))
+      ∙ sym (joined-more w b (run f s k) (f (s + k)))
+      ∙ ap (λ (l : List A). joinedBy (b ∷ []) (each w l)) (sym (run-more f s k))

@@ -12,7 +12,7 @@ use Rattle.tables.specs.Reading.{eventEntry}
 use Rattle.tables.specs.Fitting.{eventInRange}
 use Rattle.table_check.proofs.WholeFacts.{WholeFacts, facts-of-whole, event-range}
 use Rattle.writing.specs.Overlay.{Put, separator}
-use Rattle.printer.proofs.RunJoined.{run-joined, run-joined-none}
+use Rattle.writing.proofs.Joined.{run-joined, run-joined-none}
 use Rattle.printer.proofs.productions.put_events.Statement.{statement}
 use Rattle.printer.proofs.productions.put_events.Tie as tie
 

@@ -9,7 +9,7 @@ use Rattle.words.specs.Runs.{run}
 use Rattle.model.specs.Canonical.{joinedBy, each, eventText, callText, productionText}
 use Rattle.tables.specs.Reading.{eventEntry, callEntry, productionEntry, firstEvent, productionEvents, firstCall, productionCalls}
 use Rattle.table_check.proofs.WholeFacts.{WholeFacts}
-use Rattle.printer.proofs.ReadyFacts.{ready-facts}
+use Rattle.call_text.proofs.ReadyFacts.{ready-facts}
 use Rattle.printer.proofs.productions.put_production.Statement.{statement}
 use Rattle.printer.proofs.productions.put_production.Tie as tie
 

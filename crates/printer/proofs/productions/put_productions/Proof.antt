@@ -8,9 +8,9 @@ use Rattle.words.specs.Runs.{run}
 use Rattle.model.specs.Canonical.{productionsText}
 use Rattle.tables.specs.Reading.{productionEntry, productionTotal}
 use Rattle.writing.specs.Overlay.{Put}
-use Rattle.printer.proofs.RunJoined.{productions-none, productions-step}
+use Rattle.printer.proofs.ProductionSteps.{productions-none, productions-step}
 use Rattle.table_check.proofs.WholeFacts.{WholeFacts}
-use Rattle.printer.proofs.ReadyFacts.{ready-facts}
+use Rattle.call_text.proofs.ReadyFacts.{ready-facts}
 use Rattle.printer.proofs.productions.put_productions.Statement.{statement}
 use Rattle.printer.proofs.productions.put_productions.Tie as tie
 

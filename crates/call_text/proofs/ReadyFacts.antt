@@ -8,7 +8,7 @@ use lib.ListN.{length}
 use Rattle.model.specs.declared.scan.Span.{Span}
 use Rattle.tables.specs.Reading.{firstLengthIn, secondLengthIn, callTotal, callParameters, firstParameter, parameterEntry, markEntry, nameEntry}
 use Rattle.table_check.proofs.WholeFacts.{WholeFacts, facts-of-whole}
-use Rattle.printer.specs.Ready.{WriteReady}
+use Rattle.call_text.specs.Ready.{WriteReady}
 
 -- a part of the text that a mark names, of at most 8,192 bytes
 pub record Within (mark : Bool) (s : Span) (first second : List ℕ) : Type 0 where

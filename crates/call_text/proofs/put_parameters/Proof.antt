@@ -1,4 +1,4 @@
--- `printer::calls::put_parameters` meets its contract.
+-- `call_text::put_parameters` meets its contract.
 use borrow.Author.Needs.{needs}
 use native.Mathlib.Omega.{arith}
 use mathlib.Core.Path.{_≡_, ap, _∙_}
@@ -12,10 +12,10 @@ use Rattle.model.specs.declared.scan.Span.{Span}
 use Rattle.tables.specs.Reading.{parameterEntry, firstParameter, callParameters, markEntry}
 use Rattle.table_check.proofs.WholeFacts.{WholeFacts}
 use Rattle.writing.specs.Overlay.{Put, separator}
-use Rattle.printer.proofs.RunJoined.{run-joined, run-joined-none}
-use Rattle.printer.proofs.ReadyFacts.{Within, ready-facts, parameter-within}
-use Rattle.printer.proofs.calls.put_parameters.Statement.{statement}
-use Rattle.printer.proofs.calls.put_parameters.Tie as tie
+use Rattle.writing.proofs.Joined.{run-joined, run-joined-none}
+use Rattle.call_text.proofs.ReadyFacts.{Within, ready-facts, parameter-within}
+use Rattle.call_text.proofs.put_parameters.Statement.{statement}
+use Rattle.call_text.proofs.put_parameters.Tie as tie
 
 abbrev Inv-loop : tie.InvT-loop
 Inv-loop out₀ at l first second i mark from n next₀ k₀ out next k =

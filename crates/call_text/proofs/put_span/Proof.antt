@@ -1,9 +1,9 @@
--- `printer::calls::put_span` meets its contract.
+-- `call_text::put_span` meets its contract.
 use borrow.Author.Needs.{needs}
 use Prim.Native.Nat.{_+_, _≤_}
 use lib.ListN.{length}
-use Rattle.printer.proofs.calls.put_span.Statement.{statement}
-use Rattle.printer.proofs.calls.put_span.Tie as tie
+use Rattle.call_text.proofs.put_span.Statement.{statement}
+use Rattle.call_text.proofs.put_span.Tie as tie
 
 put-part-requires : tie.Need-put-part-requires
 put-part-requires c κs =

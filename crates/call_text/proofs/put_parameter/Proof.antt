@@ -1,10 +1,10 @@
--- `printer::calls::put_parameter` meets its contract.
+-- `call_text::put_parameter` meets its contract.
 use borrow.Author.Needs.{needs}
 use native.Mathlib.Omega.{arith}
 use Rattle.writing.proofs.Laws.{put-then}
 use Rattle.model.specs.Canonical.{parameterText}
-use Rattle.printer.proofs.calls.put_parameter.Statement.{statement}
-use Rattle.printer.proofs.calls.put_parameter.Tie as tie
+use Rattle.call_text.proofs.put_parameter.Statement.{statement}
+use Rattle.call_text.proofs.put_parameter.Tie as tie
 
 put-byte-requires : tie.Need-put-byte-requires
 put-byte-requires c κs = search needs

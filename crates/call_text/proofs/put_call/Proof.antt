@@ -1,4 +1,4 @@
--- `printer::calls::put_call` meets its contract.
+-- `call_text::put_call` meets its contract.
 use borrow.Author.Needs.{needs}
 use native.Mathlib.Omega.{arith}
 use mathlib.Core.Path.{_≡_, ap, _∙_}
@@ -9,9 +9,9 @@ use Rattle.model.specs.Canonical.{callText}
 use Rattle.model.specs.declared.scan.Span.{Span}
 use Rattle.tables.specs.Reading.{callEntry, markEntry, nameEntry}
 use Rattle.table_check.proofs.WholeFacts.{WholeFacts}
-use Rattle.printer.proofs.ReadyFacts.{Within, ready-facts, name-within}
-use Rattle.printer.proofs.calls.put_call.Statement.{statement}
-use Rattle.printer.proofs.calls.put_call.Tie as tie
+use Rattle.call_text.proofs.ReadyFacts.{Within, ready-facts, name-within}
+use Rattle.call_text.proofs.put_call.Statement.{statement}
+use Rattle.call_text.proofs.put_call.Tie as tie
 
 call-mark-requires : tie.Need-call-mark-requires
 call-mark-requires c κs = let f : WholeFacts (c .before .before .before .before .args .l .now) = ready-facts (c .before .before .before .before .args .l .now) (c .before .before .before .before .args .first .now) (c .before .before .before .before .args .second .now) (c .before .before .before .before .pre .1) in omega (arith, f .long, f .calls, c .before .before .before .before .pre .2)

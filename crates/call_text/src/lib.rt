@@ -10,7 +10,7 @@ ghost use Rattle.model.specs.Asking.{partBytes};
 ghost use Rattle.model.specs.Canonical.{joinedBy, each, parameterText, callText};
 ghost use Rattle.tables.specs.Reading.{callTotal, callEntry, markEntry, parameterEntry, firstParameter, callParameters};
 ghost use Rattle.writing.specs.Overlay.{Put};
-ghost use Rattle.printer.specs.Ready.{WriteReady};
+ghost use Rattle.call_text.specs.Ready.{WriteReady};
 
 // A part of the second text where the mark is set, of the first otherwise.
 fn put_span(out: &mut [u8], at: usize, first: &[u8], second: &[u8], mark: bool, s: Span) -> usize

@@ -1,4 +1,4 @@
--- `printer::calls::put_calls` meets its contract.
+-- `call_text::put_calls` meets its contract.
 use borrow.Author.Needs.{needs}
 use native.Mathlib.Omega.{arith}
 use mathlib.Core.Path.{_≡_, ap}
@@ -10,10 +10,10 @@ use Rattle.model.specs.Canonical.{joinedBy, each, callText}
 use Rattle.tables.specs.Reading.{callEntry}
 use Rattle.table_check.proofs.WholeFacts.{WholeFacts}
 use Rattle.writing.specs.Overlay.{Put}
-use Rattle.printer.proofs.RunJoined.{run-joined, run-joined-none}
-use Rattle.printer.proofs.ReadyFacts.{ready-facts}
-use Rattle.printer.proofs.calls.put_calls.Statement.{statement}
-use Rattle.printer.proofs.calls.put_calls.Tie as tie
+use Rattle.writing.proofs.Joined.{run-joined, run-joined-none}
+use Rattle.call_text.proofs.ReadyFacts.{ready-facts}
+use Rattle.call_text.proofs.put_calls.Statement.{statement}
+use Rattle.call_text.proofs.put_calls.Tie as tie
 
 abbrev Inv-loop : tie.InvT-loop
 Inv-loop out₀ at l first second from n next₀ k₀ out next k =
