@@ -90,7 +90,7 @@ module _ (text : List ℕ) where
 
   lines-written : (fuel at : ℕ) (d : Directive) (ps : List Production) → ProductionsWritten text ps → Own text (linesFrom fuel text at d ps)
   unfolding linesFrom Next
-  lines-written zero at d ps w = own-table d ps w
+  lines-written zero at d ps w = tt
   lines-written (suc fuel) at d ps w =
       after-directive at d ps (directiveAt text at) (λ p e qs. linesFrom fuel text p e qs) w (λ p e qs q. lines-written fuel p e qs q)
 

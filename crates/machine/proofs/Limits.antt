@@ -98,7 +98,7 @@ fine-lines :
     (fuel : ℕ) (text : List ℕ) (at : ℕ) (d : Directive) (ps : List Production) → passesLimit ps ≡ false
     → Fine (linesFrom fuel text at d ps)
 unfolding linesFrom FineRest
-fine-lines zero text at d ps w = w
+fine-lines zero text at d ps w = tt
 fine-lines (suc fuel) text at d ps w =
     fine-directive text (λ p e qs. linesFrom fuel text p e qs) (λ p e qs v. fine-lines fuel text p e qs v) at d ps w
     (directiveAt text at)
