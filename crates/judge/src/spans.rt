@@ -19,7 +19,9 @@ ghost use mathlib.Core.List.{[]};
 ghost use Prim.Native.Nat.{_≤_};
 ghost use lib.ListN.{length};
 ghost use Rattle.model.specs.Events.{listed, modifiersAt};
-ghost use Rattle.model.specs.Judging.{judgedWritten};
+ghost use Rattle.model.specs.Names.{typeNamed};
+ghost use Rattle.model.specs.Numbers.{judgedNumber};
+ghost use Rattle.model.specs.Judging.{typedNumber, judgedWritten};
 ghost use Rattle.list_scanner.specs.ModifierLists.{modifiersIn};
 ghost use Rattle.event_scanner.specs.Spans.{listIn, countIn};
 ghost use Rattle.judge.specs.Summary.{summaryOf};
@@ -113,7 +115,8 @@ pub fn count_at(l: &[u8], code: u8, count: CountSpan) -> CountSummary
 // An event as the scanner hands it over.
 pub fn judge_event(l: &[u8], e: EventSpans) -> Judged
     requires { ⌜ SpansIn (length (now l)) e ⌝ }
-    ensures { λ r. ⌜ r ≡ judgedWritten (writtenIn (now (l .entry)) e) ⌝ }
+    ensures answer { λ r. ⌜ r ≡ judgedWritten (writtenIn (now (l .entry)) e) ⌝ }
+    ensures number { λ r. ⌜ judgedNumber r ≡ typedNumber (writtenIn (now (l .entry)) e) (typeNamed (writtenIn (now (l .entry)) e .typeName)) ⌝ }
 {
     let name = e.name;
     let list = e.list;
