@@ -15,7 +15,7 @@ use Rattle.tables.proofs.Lists.{flat-append}
 use Rattle.tables.proofs.Written.{put-event, put-call, put-parameter, put-production}
 use Rattle.tally.specs.Kept.{markedCall, fromText}
 use Rattle.tally.specs.Counting.{noTally, tallyOne, tallyAll, TallyRoom}
-use Rattle.merger.specs.Copying.{puts, putCallIn, putOne, putAll}
+use Rattle.copying.specs.Copying.{puts, putCallIn, putOne, putAll}
 use Rattle.tally.specs.declared.count.Tally.{Tally}
 use Rattle.tally.proofs.Tallies.{TallySums, tally-sums, parameters-marked, one-room, first-room, tail-room, one-after}
 

@@ -1,10 +1,6 @@
-pub mod Puts
-pub mod ProductionPuts
-pub mod KeptSteps
 pub mod Pieces
 pub mod Totals
 pub mod Images
-pub mod Directives
 pub mod Result
 pub mod Answer
 pub mod Theorems

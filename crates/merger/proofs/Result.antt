@@ -19,7 +19,7 @@ use Rattle.tables.proofs.Written.{put-header, cleared-holds}
 use Rattle.tables.proofs.MergedFits.{merged-fits}
 use Rattle.tally.specs.Kept.{keptFrom, fromText}
 use Rattle.tally.specs.Counting.{noTally, tallyAll, tallyBy, tallyMerged, TallyRoom}
-use Rattle.merger.specs.Copying.{putAll, putBy, putMerged}
+use Rattle.copying.specs.Copying.{putAll, putBy, putMerged}
 use Rattle.tally.specs.declared.count.Tally.{Tally}
 use Rattle.tally.proofs.WholeFacts as facts
 use Rattle.tally.proofs.Tallies.{TallySums, tally-sums, tally-marked, all-room}

@@ -1,3 +1,2 @@
 pub mod Merge
 pub mod Results
-pub mod Copying

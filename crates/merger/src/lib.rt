@@ -1,8 +1,5 @@
 // The merge of two tables into lent bytes: judge first, read only, then clear and write.
 use model::answers::Merged;
-
-mod copy;
-
 ghost use mathlib.Core.Path.{_≡_};
 ghost use mathlib.Core.Bool.{false, not};
 ghost use Prim.Native.Nat.{_≤_};
@@ -57,6 +54,6 @@ pub fn merge(old: &[u8], new: &[u8], out: &mut [u8]) -> Merged
     if number != 0 {
         return Merged::Refused(number);
     }
-    copy::put_merged(old, new, out);
+    copying::copy::put_merged(old, new, out);
     Merged::Accepted
 }

@@ -8,7 +8,7 @@ use lib.ListN.{length}
 use Rattle.tables.specs.Whole.{whole}
 use Rattle.tables.specs.Reading.{decode}
 use Rattle.model.specs.Merging.{mergePassesLimit}
-use Rattle.merger.specs.Copying.{putMerged}
+use Rattle.copying.specs.Copying.{putMerged}
 use Rattle.merger.proofs.Totals.{merge-room}
 use Rattle.merger.proofs.Result.{result-bytes}
 use Rattle.merger.proofs.Answer as answer

@@ -1,11 +1,11 @@
--- `merger::copy::put_merged` meets its contract.
+-- `copying::copy::put_merged` meets its contract.
 use borrow.Author.Needs.{needs}
 use native.Mathlib.Omega.{arith}
 use Rattle.tally.proofs.WholeFacts as facts
 use Rattle.tally.specs.Counting.{TallyRoom}
-use Rattle.merger.specs.Copying.{putMerged}
-use Rattle.merger.proofs.copy.put_merged.Statement.{statement}
-use Rattle.merger.proofs.copy.put_merged.Tie as tie
+use Rattle.copying.specs.Copying.{putMerged}
+use Rattle.copying.proofs.copy.put_merged.Statement.{statement}
+use Rattle.copying.proofs.copy.put_merged.Tie as tie
 
 first-length-requires : tie.Need-first-length-requires
 first-length-requires c κs = facts.long (c .before .before .before .args .old .now) (c .before .before .before .pre .0 .0)

@@ -1,4 +1,4 @@
--- `merger::copy::copy_kept` meets its contract. The invariant: putting the productions that are left gives the whole, in bytes and in the tally.
+-- `copying::copy::copy_kept` meets its contract. The invariant: putting the productions that are left gives the whole, in bytes and in the tally.
 use borrow.Author.Needs.{needs}
 use native.Mathlib.Omega.{arith}
 use Prim.Native.Nat.{_+_, _-_, _≤_, _<_}
@@ -11,12 +11,12 @@ use Rattle.tally.proofs.WholeFacts as facts
 use Rattle.tally.specs.Counting.{tallyOne, tallyAll, TallyRoom}
 use Rattle.tally.specs.declared.count.Tally.{Tally}
 use Rattle.tally.specs.Kept.{firstOf, keptFrom}
-use Rattle.merger.specs.Copying.{putOne, putAll}
+use Rattle.copying.specs.Copying.{putOne, putAll}
 use Rattle.tally.proofs.TallySteps.{tally-next, tally-done}
-use Rattle.merger.proofs.KeptSteps.{put-next, room-next, put-done}
+use Rattle.copying.proofs.KeptSteps.{put-next, room-next, put-done}
 use Rattle.model.specs.Merging.{isAmong}
-use Rattle.merger.proofs.copy.copy_kept.Statement.{statement}
-use Rattle.merger.proofs.copy.copy_kept.Tie as tie
+use Rattle.copying.proofs.copy.copy_kept.Statement.{statement}
+use Rattle.copying.proofs.copy.copy_kept.Tie as tie
 
 abbrev Inv-loop : tie.InvT-loop
 Inv-loop l other n second out₀ m t₀ p₀ out t p = (p ≤ m) × (m ≡ productionTotal l) × (length out ≡ length out₀) × (tallyAll t₀ (keptFrom l 0 other n) ≡ tallyAll t (keptFrom l p other n)) × (putAll second out₀ t₀ (keptFrom l 0 other n) ≡ putAll second out t (keptFrom l p other n))

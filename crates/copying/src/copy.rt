@@ -14,7 +14,7 @@ ghost use Rattle.tables.specs.Writing.{putEvent, putParameter};
 ghost use Rattle.tables.specs.Whole.{whole};
 ghost use Rattle.tally.specs.Kept.{keptFrom};
 ghost use Rattle.tally.specs.Counting.{tallyOne, tallyAll, tallyMerged, TallyRoom};
-ghost use Rattle.merger.specs.Copying.{puts, putCallIn, putOne, putAll, putBy, putMerged};
+ghost use Rattle.copying.specs.Copying.{puts, putCallIn, putOne, putAll, putBy, putMerged};
 ghost use Rattle.tables.specs.Layout.{tableLength};
 
 fn copy_events(l: &[u8], from: usize, n: usize, out: &mut [u8], at: usize)

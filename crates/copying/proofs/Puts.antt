@@ -4,7 +4,7 @@ use native.Mathlib.Omega.{arith}
 use mathlib.Core.Path.{_≡_}
 use mathlib.Core.List.{List}
 use Rattle.words.specs.Runs.{run}
-use Rattle.merger.specs.Copying.{puts}
+use Rattle.copying.specs.Copying.{puts}
 use Rattle.tally.proofs.Steps.{run-step, run-done, run-start}
 
 module _ {A : Type 0} (put : List ℕ → ℕ → A → List ℕ) (f : ℕ → A) (from at n : ℕ) (l : List ℕ) where

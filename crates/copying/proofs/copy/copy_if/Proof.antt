@@ -1,8 +1,8 @@
--- `merger::copy::copy_if` meets its contract.
+-- `copying::copy::copy_if` meets its contract.
 use borrow.Author.Needs.{needs}
 use borrow.Author.Tests.{not-true, not-false}
-use Rattle.merger.proofs.copy.copy_if.Statement.{statement}
-use Rattle.merger.proofs.copy.copy_if.Tie as tie
+use Rattle.copying.proofs.copy.copy_if.Statement.{statement}
+use Rattle.copying.proofs.copy.copy_if.Tie as tie
 
 returns : tie.Need-returns
 returns c = let k = not-true (c .before .before .before .args .keep) (c .if1 .taken) in (rw k, rw k)

@@ -1,4 +1,4 @@
--- `merger::copy::copy_merged` meets its contract. One case for each directive.
+-- `copying::copy::copy_merged` meets its contract. One case for each directive.
 use borrow.Author.Needs.{needs}
 use native.Mathlib.Omega.{arith}
 use mathlib.Core.Path.{_≡_, sym, _∙_}
@@ -6,9 +6,9 @@ use Rattle.tables.specs.Reading.{directiveIn}
 use Rattle.tally.proofs.WholeFacts as facts
 use Rattle.model.specs.declared.events.Directive.{Directive}
 use Rattle.tally.proofs.Directives.{replace-tally, override-tally, augment-tally}
-use Rattle.merger.proofs.Directives as by
-use Rattle.merger.proofs.copy.copy_merged.Statement.{statement}
-use Rattle.merger.proofs.copy.copy_merged.Tie as tie
+use Rattle.copying.proofs.Directives as by
+use Rattle.copying.proofs.copy.copy_merged.Statement.{statement}
+use Rattle.copying.proofs.copy.copy_merged.Tie as tie
 
 directive-requires : tie.Need-directive-requires
 directive-requires c κs = facts.long (c .before .before .before .args .new .now) (c .before .before .before .pre .0 .1)

@@ -7,7 +7,7 @@ use Rattle.model.specs.declared.events.Directive.{Directive}
 use Rattle.tables.specs.Reading.{productionTotal, directiveIn}
 use Rattle.tally.specs.Kept.{keptFrom}
 use Rattle.tally.specs.Counting.{noTally, tallyAll, tallyMerged, TallyRoom}
-use Rattle.merger.specs.Copying.{putAll, putBy}
+use Rattle.copying.specs.Copying.{putAll, putBy}
 use Rattle.tally.specs.declared.count.Tally.{Tally}
 use Rattle.tally.proofs.Tallies.{all-room}
 use Rattle.tally.proofs.Directives.{replace-tally, override-tally, augment-tally}

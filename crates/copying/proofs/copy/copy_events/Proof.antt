@@ -1,4 +1,4 @@
--- `merger::copy::copy_events` meets its contract. The invariant: putting what is left gives the whole.
+-- `copying::copy::copy_events` meets its contract. The invariant: putting what is left gives the whole.
 use borrow.Author.Needs.{needs}
 use native.Mathlib.Omega.{arith}
 use Prim.Native.Nat.{_+_, _-_, _≤_}
@@ -7,11 +7,11 @@ use lib.ListN.{length}
 use Rattle.words.specs.Runs.{run}
 use Rattle.tables.specs.Reading.{eventEntry}
 use Rattle.tables.specs.Whole.{whole}
-use Rattle.merger.specs.Copying.{puts}
+use Rattle.copying.specs.Copying.{puts}
 use Rattle.tables.specs.Writing.{putEvent}
-use Rattle.merger.proofs.Puts.{puts-start, puts-next, puts-done}
-use Rattle.merger.proofs.copy.copy_events.Statement.{statement}
-use Rattle.merger.proofs.copy.copy_events.Tie as tie
+use Rattle.copying.proofs.Puts.{puts-start, puts-next, puts-done}
+use Rattle.copying.proofs.copy.copy_events.Statement.{statement}
+use Rattle.copying.proofs.copy.copy_events.Tie as tie
 use Rattle.tables.specs.Layout.{tableLength}
 
 abbrev Inv-loop : tie.InvT-loop

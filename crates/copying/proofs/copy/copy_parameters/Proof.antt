@@ -1,4 +1,4 @@
--- `merger::copy::copy_parameters` meets its contract. The invariant: putting what is left gives the whole.
+-- `copying::copy::copy_parameters` meets its contract. The invariant: putting what is left gives the whole.
 use borrow.Author.Needs.{needs}
 use native.Mathlib.Omega.{arith}
 use Prim.Native.Nat.{_+_, _-_, _≤_}
@@ -9,11 +9,11 @@ use Rattle.words.specs.Runs.{run}
 use Rattle.tables.specs.Reading.{parameterTotal, parameterEntry}
 use Rattle.tables.specs.Whole.{whole}
 use Rattle.tally.proofs.WholeFacts as facts
-use Rattle.merger.specs.Copying.{puts}
+use Rattle.copying.specs.Copying.{puts}
 use Rattle.tables.specs.Writing.{putParameter}
-use Rattle.merger.proofs.Puts.{puts-start, puts-next, puts-done}
-use Rattle.merger.proofs.copy.copy_parameters.Statement.{statement}
-use Rattle.merger.proofs.copy.copy_parameters.Tie as tie
+use Rattle.copying.proofs.Puts.{puts-start, puts-next, puts-done}
+use Rattle.copying.proofs.copy.copy_parameters.Statement.{statement}
+use Rattle.copying.proofs.copy.copy_parameters.Tie as tie
 use Rattle.tables.specs.Layout.{tableLength}
 
 abbrev Inv-loop : tie.InvT-loop

@@ -1,4 +1,4 @@
--- `merger::copy::copy_calls` meets its contract. The invariant: putting what is left gives the whole.
+-- `copying::copy::copy_calls` meets its contract. The invariant: putting what is left gives the whole.
 use borrow.Author.Needs.{needs}
 use native.Mathlib.Omega.{arith}
 use Prim.Native.Nat.{_+_, _-_, _≤_}
@@ -9,11 +9,11 @@ use Rattle.words.specs.Runs.{run}
 use Rattle.tables.specs.Reading.{callTotal, callEntry, parameterEntry, firstParameter, callParameters}
 use Rattle.tables.specs.Whole.{whole}
 use Rattle.tally.proofs.WholeFacts as facts
-use Rattle.merger.specs.Copying.{puts, putCallIn}
-use Rattle.merger.proofs.Puts.{puts-start, puts-next, puts-done}
+use Rattle.copying.specs.Copying.{puts, putCallIn}
+use Rattle.copying.proofs.Puts.{puts-start, puts-next, puts-done}
 use Rattle.words.proofs.RunLaws.{length-run}
-use Rattle.merger.proofs.copy.copy_calls.Statement.{statement}
-use Rattle.merger.proofs.copy.copy_calls.Tie as tie
+use Rattle.copying.proofs.copy.copy_calls.Statement.{statement}
+use Rattle.copying.proofs.copy.copy_calls.Tie as tie
 use Rattle.tables.specs.Layout.{tableLength}
 
 abbrev Inv-loop : tie.InvT-loop

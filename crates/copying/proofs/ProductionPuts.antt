@@ -11,7 +11,7 @@ use Rattle.tally.specs.Counting.{extentAt, tallyOne, TallyRoom}
 use Rattle.tally.specs.declared.count.Tally.{Tally}
 use Rattle.tally.specs.declared.count.Extent.{Extent}
 use Rattle.tally.proofs.Extents as ext
-use Rattle.merger.specs.Copying.{puts, putCallIn, putOne}
+use Rattle.copying.specs.Copying.{puts, putCallIn, putOne}
 
 module _ (l : List ℕ) (p : ℕ) where
   pub put-by : (second : Bool) (t : Tally) (out : List ℕ) (y : Extent) → y ≡ extentAt l p

@@ -1,4 +1,4 @@
--- `merger::copy::copy_production` meets its contract.
+-- `copying::copy::copy_production` meets its contract.
 use borrow.Author.Needs.{needs}
 use native.Mathlib.Omega.{arith}
 use mathlib.Core.Path.{_≡_}
@@ -6,10 +6,10 @@ use Rattle.tables.specs.Reading.{productionEntry}
 use Rattle.tally.proofs.WholeFacts as facts
 use Rattle.tally.specs.Counting.{extentAt}
 use Rattle.tally.proofs.Extents as ext
-use Rattle.merger.proofs.ProductionPuts as puts
+use Rattle.copying.proofs.ProductionPuts as puts
 use Rattle.tally.proofs.Tallies.{one-room, room-below}
-use Rattle.merger.proofs.copy.copy_production.Statement.{statement}
-use Rattle.merger.proofs.copy.copy_production.Tie as tie
+use Rattle.copying.proofs.copy.copy_production.Statement.{statement}
+use Rattle.copying.proofs.copy.copy_production.Tie as tie
 
 extent-of-requires : tie.Need-extent-of-requires
 extent-of-requires c κs = search needs

@@ -8,7 +8,7 @@ use Rattle.model.specs.Merging.{isAmong}
 use Rattle.tables.specs.Reading.{productionTotal, productionEntry}
 use Rattle.tally.specs.Kept.{firstOf, keptFrom}
 use Rattle.tally.specs.Counting.{tallyOne, tallyAll, TallyRoom}
-use Rattle.merger.specs.Copying.{putOne, putAll}
+use Rattle.copying.specs.Copying.{putOne, putAll}
 use Rattle.tally.specs.declared.count.Tally.{Tally}
 use Rattle.tally.proofs.Steps.{kept-next, kept-done}
 use Rattle.tally.proofs.Tallies.{first-room}
