@@ -1,7 +1,8 @@
--- Demand 2 about the code that runs, from bytes to bytes: what `write` leaves of a table that `compile` or `merge` gave, `compile` reads back.
--- For example the text `s<Key>a:go()`: from the buffer that it was compiled into, and from the text with any bytes after it, `write`
--- leaves the bytes of `Shift<KeyPress>0x61:go()` and a newline, and compiling these gives a table of the same one production.
--- The answers and bytes here are those that the contracts of the three functions ensure. proofs/ReadBack shows it.
+-- Demand 2 about the code that runs, from bytes to bytes: what `write` leaves of a table that `compile` or `merge` gave,
+-- `compile` reads back.
+-- For example `s<Key>a:go()`: lent the buffer that it was compiled into, and this text with any bytes after it, `write` leaves
+-- the bytes of `Shift<KeyPress>0x61:go()` and a newline; compiling these gives a table of the same one production.
+-- The answers and bytes are those that the contracts of the three functions ensure. proofs/ReadBack shows it.
 use Prim.Native.Nat.{ℕ, _≤_, _<_}
 use mathlib.Core.Path.{_≡_}
 use mathlib.Core.Bool.{true}
