@@ -8,7 +8,7 @@ use Rattle.words.proofs.Bools.{same-test}
 use Rattle.tables.specs.Layout.{tableLength}
 use Rattle.tables.specs.Reading.{decode}
 use Rattle.tables.specs.Whole.{whole}
-use Rattle.tables.specs.Laws.{Holds}
+use Rattle.tables.specs.Laws.{HoldsTable}
 use Rattle.table_check.specs.Checks.{checks}
 use Rattle.tables.proofs.Theorems.{whole-holds, holds-split, holds-whole}
 use Rattle.table_check.proofs.Checked.{checks-encode}
@@ -17,7 +17,7 @@ use Rattle.table_check.proofs.Decoded.{bytes-same, table-fits}
 
 whole-checks : (l : List ℕ) → whole l ≡ true → checks l ≡ true
 whole-checks l e =
-    let h : Holds (decode l) l = whole-holds l e in
+    let h : HoldsTable (decode l) l = whole-holds l e in
     rw (holds-split (decode l) l h) (checks-encode (decode l) (h .fits) (drop tableLength l))
 
 module _ (l : List ℕ) (bytes : (i : ℕ) → getD l i 0 < 256) where

@@ -19,7 +19,7 @@ use Rattle.tables.specs.Layout.{padded, joinedSections, offset, columns,
 use Rattle.tables.specs.Reading.{decode}
 use Rattle.tables.specs.Fitting.{fitting}
 use Rattle.tables.specs.Whole.{whole}
-use Rattle.tables.specs.Laws.{DecodeEncode, Holds, WholeHolds, HoldsWhole, HoldsDecode, EncodeEmpty}
+use Rattle.tables.specs.Laws.{DecodeEncode, HoldsTable, WholeHolds, HoldsWhole, HoldsDecode, EncodeEmpty}
 use Rattle.tables.proofs.Images.{length-image}
 use Rattle.tables.proofs.Encoded as encoded
 
@@ -49,7 +49,7 @@ whole-holds l e =
       bytes = same-eq (take tableLength l) (encode (decode l)) (and-right (fitting (decode l)) (same (take tableLength l) (encode (decode l))) e);
     }
 
-pub holds-split : (t : Table) (l : List ℕ) → Holds t l → l ≡ encode t ++ drop tableLength l
+pub holds-split : (t : Table) (l : List ℕ) → HoldsTable t l → l ≡ encode t ++ drop tableLength l
 holds-split t l h = sym (take-append-drop tableLength l) ∙ ap (λ (a : List ℕ). a ++ drop tableLength l) (h .bytes)
 
 pub holds-whole : HoldsWhole
@@ -60,7 +60,7 @@ holds-decode t l h = rw (holds-split t l h) (decode-encode t (h .fits) (drop tab
 
 pub whole-length : (l : List ℕ) → whole l ≡ true → tableLength ≤ length l
 whole-length l e =
-    let h : Holds (decode l) l = whole-holds l e in
+    let h : HoldsTable (decode l) l = whole-holds l e in
     omega (arith, ap length (holds-split (decode l) l h), length-append (encode (decode l)) (drop tableLength l), length-encode (decode l) (h .fits))
 
 -- ---- The empty table

@@ -20,20 +20,20 @@ abbrev pub DecodeEncode : Type 0
 DecodeEncode = (t : Table) → fitting t ≡ true → (rest : List ℕ) → decode (encode t ++ rest) ≡ t
 
 -- bytes begin with those of a table that fits
-pub record Holds (t : Table) (l : List ℕ) : Type 0 where
+pub record HoldsTable (t : Table) (l : List ℕ) : Type 0 where
   pub fits : fitting t ≡ true
   pub bytes : take tableLength l ≡ encode t
 
 -- `whole-holds`, `holds-whole`: bytes are whole exactly if they begin with the bytes of a table that fits
 abbrev pub WholeHolds : Type 0
-WholeHolds = (l : List ℕ) → whole l ≡ true → Holds (decode l) l
+WholeHolds = (l : List ℕ) → whole l ≡ true → HoldsTable (decode l) l
 
 abbrev pub HoldsWhole : Type 0
-HoldsWhole = (t : Table) (l : List ℕ) → Holds t l → whole l ≡ true
+HoldsWhole = (t : Table) (l : List ℕ) → HoldsTable t l → whole l ≡ true
 
 -- `holds-decode`: and that table is the one that they read as
 abbrev pub HoldsDecode : Type 0
-HoldsDecode = (t : Table) (l : List ℕ) → Holds t l → decode l ≡ t
+HoldsDecode = (t : Table) (l : List ℕ) → HoldsTable t l → decode l ≡ t
 
 -- `encode-empty`: "After any other the compiler and merger leave the output table all zero, an empty table."
 abbrev pub EncodeEmpty : Type 0
