@@ -17,11 +17,11 @@ use Rattle.model.specs.declared.names.EventType.{EventType}
 use Rattle.model.specs.declared.names.TypeName.{TypeName}
 use Rattle.model.specs.declared.answers.Judged.{Judged}
 use Rattle.modifiers.proofs.Masks.{same-mask, bit-mask}
-use Rattle.judge.specs.declared.lists.ListSummary.{ListSummary}
+use Rattle.list_masks.specs.declared.lists.ListSummary.{ListSummary}
 use Rattle.judge.specs.declared.events.CountSummary.{CountSummary}
 use Rattle.judge.specs.declared.events.DetailSummary.{DetailSummary}
-use Rattle.judge.specs.Summary.{summaryOf, setOf, clearOf, clauseOf}
-use Rattle.judge.specs.Judged.{countSummary, detailSummary, hasStandardBits, colonMisplaced, keptParts, partsNumber, judgedParts, judgedBy}
+use Rattle.list_masks.specs.Summary.{summaryOf, setOf, clearOf, clauseOf}
+use Rattle.judge.specs.Judged.{countSummary, detailSummary, hasStandardBits, colonMisplaced, keptParts, partsNumber, judgedParts}
 
 module _ (list : ModifierList) where
   set-bit : (k : ℕ) → k < 13 → bit k (mask (listsSet list)) ≡ listsSet list k
@@ -108,14 +108,14 @@ module _ (w : Written) (ty : EventType) where
       (λ (a b : Bool). eventOrder (isUnknown w ty) (isOutOfRange w ty) (isUnbuilt w ty) (isListNotTaken w ty) a b)
       colon-same (ap impossible kept-same)
 
-  pub judged-same : judgedBy (summaryOf (w .list)) ty (w .count) (w .detail) ≡ judgedAs w (TypeName.Known ty)
-  unfolding judgedBy judgedParts
+  judged-same : judgedParts (summaryOf (w .list)) ty counted detailed ≡ judgedAs w (TypeName.Known ty)
+  unfolding judgedParts
   judged-same = ap₂ keepUnless number-same kept-same
 
   -- from the values of its parts
   pub judged-from : (s : ListSummary) (c : CountSummary) (d : DetailSummary) → typeNamed (w .typeName) ≡ TypeName.Known ty
       → s ≡ summaryOf (w .list) → c ≡ counted → d ≡ detailed → judgedParts s ty c d ≡ judgedWritten w
-  unfolding judgedBy judgedWritten
+  unfolding judgedWritten
   judged-from s c d e p q r = (λ i. judgedParts (p i) ty (q i) (r i)) ∙ judged-same ∙ sym (ap (judgedAs w) e)
 
 -- ---- The number of what is judged

@@ -2,7 +2,7 @@
 use mathlib.Core.Path.{sym, ap, _∙_}
 use Rattle.model.specs.Judging.{judgedAs, judgedWritten}
 use Rattle.judge.specs.Spans.{writtenIn}
-use Rattle.judge.proofs.Listed.{summary-in}
+use Rattle.list_masks.proofs.Listed.{summary-in}
 use Rattle.judge.proofs.NameRanges.{type-in}
 use Rattle.judge.proofs.Same.{judged-from, with-number}
 use borrow.Author.Needs.{needs}

@@ -1,11 +1,11 @@
--- `judge::lists::set_of` meets its contract.
+-- `list_masks::lists::set_of` meets its contract.
 use mathlib.Core.Path.{refl, sym, subst, _∙_}
 use Rattle.model.specs.declared.names.Added.{Added}
-use Rattle.judge.specs.Summary.{AddedIn}
-use Rattle.judge.proofs.Asked.{set-unchanged, set-added}
+use Rattle.list_masks.specs.Summary.{AddedIn}
+use Rattle.list_masks.proofs.Asked.{set-unchanged, set-added}
 use borrow.Author.Needs.{needs}
-use Rattle.judge.proofs.lists.set_of.Statement.{statement}
-use Rattle.judge.proofs.lists.set_of.Tie as tie
+use Rattle.list_masks.proofs.lists.set_of.Statement.{statement}
+use Rattle.list_masks.proofs.lists.set_of.Tie as tie
 
 enum-told : tie.Need-enum-told
 enum-told c = search needs

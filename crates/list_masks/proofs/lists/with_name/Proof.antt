@@ -1,9 +1,9 @@
--- `judge::lists::with_name` meets its contract.
+-- `list_masks::lists::with_name` meets its contract.
 use mathlib.Core.Path.{subst}
-use Rattle.judge.specs.Summary.{withName, NameIn}
+use Rattle.list_masks.specs.Summary.{withName, NameIn}
 use borrow.Author.Needs.{needs}
-use Rattle.judge.proofs.lists.with_name.Statement.{statement}
-use Rattle.judge.proofs.lists.with_name.Tie as tie
+use Rattle.list_masks.proofs.lists.with_name.Statement.{statement}
+use Rattle.list_masks.proofs.lists.with_name.Tie as tie
 
 enum-told : tie.Need-enum-told
 enum-told c = search needs

@@ -1,10 +1,10 @@
--- `judge::lists::clause_of` meets its contract: of 13 bits those from 256 on are the buttons'.
+-- `list_masks::lists::clause_of` meets its contract: of 13 bits those from 256 on are the buttons'.
 use mathlib.Core.Path.{sym}
-use Rattle.judge.specs.Summary.{clauseOf}
-use Rattle.judge.proofs.Asked.{clause-buttons}
+use Rattle.list_masks.specs.Summary.{clauseOf}
+use Rattle.list_masks.proofs.Asked.{clause-buttons}
 use borrow.Author.Needs.{needs}
-use Rattle.judge.proofs.lists.clause_of.Statement.{statement}
-use Rattle.judge.proofs.lists.clause_of.Tie as tie
+use Rattle.list_masks.proofs.lists.clause_of.Statement.{statement}
+use Rattle.list_masks.proofs.lists.clause_of.Tie as tie
 
 enum-told : tie.Need-enum-told
 enum-told c = search needs

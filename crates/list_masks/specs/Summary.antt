@@ -8,7 +8,7 @@ use Rattle.model.specs.Judging.{anyUnknown, anyUnbuilt}
 use Rattle.model.specs.declared.names.Added.{Added}
 use Rattle.model.specs.declared.names.ModifierName.{ModifierName}
 use Rattle.modifiers.specs.Setting.{withBit}
-use Rattle.judge.specs.declared.lists.ListSummary.{ListSummary}
+use Rattle.list_masks.specs.declared.lists.ListSummary.{ListSummary}
 
 -- the value of a list
 unfoldable pub summaryOf : ModifierList → ListSummary

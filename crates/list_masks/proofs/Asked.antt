@@ -10,8 +10,8 @@ use Rattle.model.specs.declared.names.Added.{Added}
 use Rattle.modifiers.specs.Setting.{withBit}
 use Rattle.modifiers.proofs.Masks.{same-mask, mask-bits, mask-below, mask-or, mask-and, mask-not}
 use Rattle.modifiers.proofs.Meeting.{button-down}
-use Rattle.judge.specs.declared.lists.ListSummary.{ListSummary}
-use Rattle.judge.specs.Summary.{setOf, clearOf, clauseOf, SummaryIn}
+use Rattle.list_masks.specs.declared.lists.ListSummary.{ListSummary}
+use Rattle.list_masks.specs.Summary.{setOf, clearOf, clauseOf, SummaryIn}
 
 -- ---- Bits asked set
 

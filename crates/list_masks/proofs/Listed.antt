@@ -13,8 +13,8 @@ use Rattle.model.specs.declared.names.ModifierName.{ModifierName}
 use Rattle.modifiers.specs.Setting.{withBit}
 use Rattle.modifiers.proofs.Masks.{same-mask, mask-below}
 use Rattle.modifiers.proofs.Setting.{with-bit-mask}
-use Rattle.judge.specs.declared.lists.ListSummary.{ListSummary}
-use Rattle.judge.specs.Summary.{summaryOf, withName, withKeysym, SummaryIn}
+use Rattle.list_masks.specs.declared.lists.ListSummary.{ListSummary}
+use Rattle.list_masks.specs.Summary.{summaryOf, withName, withKeysym, SummaryIn}
 
 -- ---- Ranges
 

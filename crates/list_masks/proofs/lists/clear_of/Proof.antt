@@ -1,10 +1,10 @@
--- `judge::lists::clear_of` meets its contract: unlisted bits by `|` and a difference.
+-- `list_masks::lists::clear_of` meets its contract: unlisted bits by `|` and a difference.
 use mathlib.Core.Path.{sym}
 use native.Mathlib.Omega.{arith}
 use borrow.Author.Tests.{not-true, not-false}
-use Rattle.judge.proofs.Asked.{clear-listed, clear-colon, clear-all, unlisted-fits}
-use Rattle.judge.proofs.lists.clear_of.Statement.{statement}
-use Rattle.judge.proofs.lists.clear_of.Tie as tie
+use Rattle.list_masks.proofs.Asked.{clear-listed, clear-colon, clear-all, unlisted-fits}
+use Rattle.list_masks.proofs.lists.clear_of.Statement.{statement}
+use Rattle.list_masks.proofs.lists.clear_of.Tie as tie
 
 returns : tie.Need-returns
 returns c = sym (clear-listed (c .before .before .args .s) (c .before .before .pre) (not-true _ (c .if1 .taken)))

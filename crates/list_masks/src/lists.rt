@@ -5,7 +5,7 @@ ghost use mathlib.Core.Path.{_≡_};
 ghost use Prim.Native.Nat.{_<_};
 ghost use Rattle.model.specs.declared.names.Added.{Added};
 ghost use Rattle.model.specs.declared.names.ModifierName.{ModifierName};
-ghost use Rattle.judge.specs.Summary.{withName, withKeysym, setOf, clearOf, clauseOf, SummaryIn, NameIn, AddedIn};
+ghost use Rattle.list_masks.specs.Summary.{withName, withKeysym, setOf, clearOf, clauseOf, SummaryIn, NameIn, AddedIn};
 
 // A modifier list: what is written, and the bits that it lists without `~` and with it.
 pub struct ListSummary {
