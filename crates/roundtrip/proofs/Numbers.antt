@@ -14,29 +14,29 @@ use Rattle.model.specs.Limits.{keysymLimit}
 use Rattle.model.specs.Details.{digitValue, digitsFrom, withinLimit, numberIn, keyDetail}
 use Rattle.model.specs.Bytes.{byteAt}
 use Rattle.model.specs.Judging.{isOneDigit}
-use Rattle.model.specs.Canonical.{isDigitSign, digitsIn, hexadecimal, decimal}
+use Rattle.model.specs.Canonical.{digit, digitsIn, hexadecimal, decimal}
 use Rattle.model.specs.declared.names.DetailRead.{DetailRead}
 use Rattle.modifiers.proofs.Below.{every, every-at, both-left, both-right}
-use Rattle.grammar.specs.Bytes.{letterOrDigit, isDigitSign as digitByte}
+use Rattle.grammar.specs.Bytes.{letterOrDigit, isDigitSign}
 use Rattle.grammar.specs.Tokens.{isSome}
 use Rattle.roundtrip.proofs.Lists.{all-append, some-append, choose}
 
 -- ---- Digits
 
 abbrev digitReads : ℕ → Bool
-digitReads v = eqb (digitValue (isDigitSign v)) v && letterOrDigit (isDigitSign v)
+digitReads v = eqb (digitValue (digit v)) v && letterOrDigit (digit v)
 
 digits-read : every 16 digitReads ≡ true
 unfolding every digitValue
 digits-read = refl
 
-digit-value : (v : ℕ) → v < 16 → digitValue (isDigitSign v) ≡ v
+digit-value : (v : ℕ) → v < 16 → digitValue (digit v) ≡ v
 digit-value v h =
-    eqb-true (digitValue (isDigitSign v)) v
-    (both-left (eqb (digitValue (isDigitSign v)) v) (letterOrDigit (isDigitSign v)) (every-at 16 digitReads digits-read v h))
+    eqb-true (digitValue (digit v)) v
+    (both-left (eqb (digitValue (digit v)) v) (letterOrDigit (digit v)) (every-at 16 digitReads digits-read v h))
 
-pub digit-letter : (v : ℕ) → v < 16 → letterOrDigit (isDigitSign v) ≡ true
-digit-letter v h = both-right (eqb (digitValue (isDigitSign v)) v) (letterOrDigit (isDigitSign v)) (every-at 16 digitReads digits-read v h)
+pub digit-letter : (v : ℕ) → v < 16 → letterOrDigit (digit v) ≡ true
+digit-letter v h = both-right (eqb (digitValue (digit v)) v) (letterOrDigit (digit v)) (every-at 16 digitReads digits-read v h)
 
 -- ---- Digits after digits
 
@@ -50,15 +50,15 @@ from-last base s v b (c ∷ w) h e =
     (λ q. let f : _≡_ {A = Option ℕ} none (some v) = rw q at e in let z : _≡_ {A = ℕ} 0 1 = cc in absurd (omega arith))
 
 -- one digit, or the digits of the quotient and then the last one
-in-one : (fuel v : ℕ) → ltb v 16 ≡ true → digitsIn 16 (suc fuel) v ≡ isDigitSign v ∷ []
+in-one : (fuel v : ℕ) → ltb v 16 ≡ true → digitsIn 16 (suc fuel) v ≡ digit v ∷ []
 unfolding digitsIn
 in-one fuel v q = rw q
 
-in-more : (fuel v : ℕ) → ltb v 16 ≡ false → digitsIn 16 (suc fuel) v ≡ digitsIn 16 fuel (v / 16) ++ (isDigitSign (v % 16) ∷ [])
+in-more : (fuel v : ℕ) → ltb v 16 ≡ false → digitsIn 16 (suc fuel) v ≡ digitsIn 16 fuel (v / 16) ++ (digit (v % 16) ∷ [])
 unfolding digitsIn
 in-more fuel v q = rw q
 
-one-reads : (v : ℕ) → v < 16 → digitsFrom 16 0 (isDigitSign v ∷ []) ≡ some v
+one-reads : (v : ℕ) → v < 16 → digitsFrom 16 0 (digit v ∷ []) ≡ some v
 unfolding digitsFrom
 one-reads v h = rw (digit-value v h, lt-ltb v 16 h) (ap {B = Option ℕ} some (let z : 0 * 16 + v ≡ v = omega arith in z))
 
@@ -72,13 +72,13 @@ in-sixteen (suc (suc fuel)) v h z =
     (λ q. rw (in-one (suc fuel) v q) (one-reads v (ltb-true v 16 q)))
     (λ q.
     let d : v % 16 < 16 = omega arith in
-    let e : digitValue (isDigitSign (v % 16)) ≡ v % 16 = digit-value (v % 16) d in
-    let t : ltb (digitValue (isDigitSign (v % 16))) 16 ≡ true = rw e (lt-ltb (v % 16) 16 d) in
+    let e : digitValue (digit (v % 16)) ≡ v % 16 = digit-value (v % 16) d in
+    let t : ltb (digitValue (digit (v % 16))) 16 ≡ true = rw e (lt-ltb (v % 16) 16 d) in
     let n : v / 16 < 16 ^ suc fuel = omega (arith, pow-suc 16 (suc fuel)) in
     let z : 0 < suc fuel = omega arith in
-    let f : v / 16 * 16 + digitValue (isDigitSign (v % 16)) ≡ v = omega arith in
+    let f : v / 16 * 16 + digitValue (digit (v % 16)) ≡ v = omega arith in
     rw (in-more (suc fuel) v q)
-    (from-last 16 0 (v / 16) (isDigitSign (v % 16)) (digitsIn 16 (suc fuel) (v / 16)) t (in-sixteen (suc fuel) (v / 16) n z)
+    (from-last 16 0 (v / 16) (digit (v % 16)) (digitsIn 16 (suc fuel) (v / 16)) t (in-sixteen (suc fuel) (v / 16) n z)
     ∙ ap {B = Option ℕ} some f))
 
 pub digits-letters : (fuel v : ℕ) → all letterOrDigit (digitsIn 16 fuel v) ≡ true
@@ -89,12 +89,12 @@ digits-letters (suc fuel) v =
     (λ q.
     let d : v % 16 < 16 = omega arith in
     rw (in-more fuel v q)
-    (all-append letterOrDigit (digitsIn 16 fuel (v / 16)) (isDigitSign (v % 16) ∷ []) (digits-letters fuel (v / 16))
+    (all-append letterOrDigit (digitsIn 16 fuel (v / 16)) (digit (v % 16) ∷ []) (digits-letters fuel (v / 16))
     (rw (digit-letter (v % 16) d))))
 
 digits-some : (fuel v : ℕ) → isSome (digitsIn 16 (suc fuel) v) ≡ true
 digits-some fuel v =
-    choose (ltb v 16) (λ q. rw (in-one fuel v q)) (λ q. rw (in-more fuel v q) (some-append (digitsIn 16 fuel (v / 16)) (isDigitSign (v % 16))))
+    choose (ltb v 16) (λ q. rw (in-one fuel v q)) (λ q. rw (in-more fuel v q) (some-append (digitsIn 16 fuel (v / 16)) (digit (v % 16))))
 
 -- ---- A keysym
 
@@ -118,7 +118,7 @@ hexadecimal-reads v h =
 -- ---- A count
 
 abbrev isCount : ℕ → Bool
-isCount n = isOneDigit (decimal n) && (eqb (byteAt (decimal n) 0 - 48) n && (all digitByte (decimal n) && isSome (decimal n)))
+isCount n = isOneDigit (decimal n) && (eqb (byteAt (decimal n) 0 - 48) n && (all isDigitSign (decimal n) && isSome (decimal n)))
 
 are-counts : every 9 (λ k. isCount (1 + k)) ≡ true
 unfolding every decimal digitsIn
@@ -127,7 +127,7 @@ are-counts = refl
 pub record OneDigit (n : ℕ) : Type 0 where
   pub one : isOneDigit (decimal n) ≡ true
   pub value : byteAt (decimal n) 0 - 48 ≡ n
-  pub digits : all digitByte (decimal n) ≡ true
+  pub digits : all isDigitSign (decimal n) ≡ true
   pub some : isSome (decimal n) ≡ true
 
 pub one-digit : (n : ℕ) → 1 ≤ n → n ≤ 9 → OneDigit n
@@ -137,7 +137,7 @@ one-digit n low high =
     let e : isCount n ≡ true = rw i at (every-at 9 (λ k. isCount (1 + k)) are-counts (n - 1) l) in
     let a : Bool = isOneDigit (decimal n) in
     let b : Bool = eqb (byteAt (decimal n) 0 - 48) n in
-    let c : Bool = all digitByte (decimal n) in
+    let c : Bool = all isDigitSign (decimal n) in
     let d : Bool = isSome (decimal n) in
     record {
       one = both-left a (b && (c && d)) e;
