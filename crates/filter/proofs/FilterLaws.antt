@@ -13,6 +13,8 @@ use Rattle.words.specs.Words.{wordAt}
 use Rattle.words.proofs.Bools.{and-left, and-both, chain-parts}
 use Rattle.keyboard.specs.Folds.{fold, folded}
 use Rattle.keyboard.proofs.Folds.{asked-in}
+use Rattle.model.specs.Setting.{Setting}
+use Rattle.model.specs.Asked.{asked, testMet}
 use Rattle.model.specs.Counts.{quick}
 use Rattle.model.specs.Matching.{detailMet}
 use Rattle.model.specs.Keyboard.{firstKeysym, secondKeysym}
@@ -83,11 +85,11 @@ sought-code : (map : List ℕ) (x : Event) → x .code ≡ soughtOf map x .code
 unfolding soughtOf
 sought-code map x = refl
 
-state-part : (map l : List ℕ) (i : ℕ) (x : Event) → eventMeets map (eventEntry l i) x ≡ true
+state-part : (setting : Setting) (l : List ℕ) (i : ℕ) (x : Event) → eventMeets setting (eventEntry l i) x ≡ true
     → stateMeets (eventEntry l i .set) (eventEntry l i .clear) (isFlag 2 (flagsIn l i)) (x .state) ≡ true
-unfolding eventMeets eventEntry eventFromWords flagsIn
-state-part map l i x m =
-    and-left (stateMeets (eventEntry l i .set) (eventEntry l i .clear) (isFlag 2 (flagsIn l i)) (x .state)) (detailMet map (eventEntry l i) (eventEntry l i .detail) x) m
+unfolding eventMeets testMet asked eventEntry eventFromWords flagsIn
+state-part setting l i x m =
+    and-left (stateMeets (eventEntry l i .set) (eventEntry l i .clear) (isFlag 2 (flagsIn l i)) (x .state)) (detailMet setting (eventEntry l i) (eventEntry l i .detail) x) m
 
 suits-state : (map l : List ℕ) (i : ℕ) (x : Event) → EntryFacts l i
     → stateMeets (eventEntry l i .set) (eventEntry l i .clear) (isFlag 2 (flagsIn l i)) (x .state) ≡ true → suits l i (soughtOf map x) ≡ true
@@ -98,8 +100,8 @@ suits-state map l i x f m =
     let b : bitsMet set clear (x .state) ≡ true = and-left (bitsMet set clear (x .state)) (clauseMet (isFlag 2 (flagsIn l i)) (x .state)) m in
     and-left (eqb (bitAnd (x .state) set) set) (eqb (bitAnd (x .state) clear) 0) (sym (bits-met set clear (x .state) (f .setBelow) (f .clearBelow)) ∙ b)
 
-module _ (map : List ℕ) (x : Event) where
-  none-asked : (low : ℕ) → low ≡ 0 → detailSeems low (soughtOf map x) ≡ true
+module _ (setting : Setting) (x : Event) where
+  none-asked : (low : ℕ) → low ≡ 0 → detailSeems low (soughtOf (setting .keyboard) x) ≡ true
   unfolding detailSeems
   none-asked low e = rw e
 
@@ -107,70 +109,70 @@ module _ (map : List ℕ) (x : Event) where
   or-assoc true b c e = refl
   or-assoc false b c e = e
 
-  asked : (set clear : ℕ) (colon : Bool) (value low : ℕ) → folded value ≡ fold low → detailAsked map set clear colon value x ≡ true
-      → detailSeems low (soughtOf map x) ≡ true
+  asked-seems : (set clear : ℕ) (colon : Bool) (value low : ℕ) → folded value ≡ fold low → detailAsked (setting .keyboard) set clear colon value x ≡ true
+      → detailSeems low (soughtOf (setting .keyboard) x) ≡ true
   unfolding detailAsked detailSeems soughtOf
-  asked set clear colon value low w e = go (leb (x .code) 3) refl
+  asked-seems set clear colon value low w e = go (leb (x .code) 3) refl
     where
-      go : (t : Bool) → leb (x .code) 3 ≡ t → detailSeems low (soughtOf map x) ≡ true
+      go : (t : Bool) → leb (x .code) 3 ≡ t → detailSeems low (soughtOf (setting .keyboard) x) ≡ true
       go true q =
           rw (q, ← w)
-          (or-assoc (eqb low 0) (eqb (folded value) (folded (firstKeysym map (x .detail))))
-          (eqb (folded value) (folded (other (firstKeysym map (x .detail)) (secondKeysym map (x .detail)))))
-          (asked-in (firstKeysym map (x .detail)) (secondKeysym map (x .detail)) value set clear colon (x .state) (rw q at e)))
+          (or-assoc (eqb low 0) (eqb (folded value) (folded (firstKeysym (setting .keyboard) (x .detail))))
+          (eqb (folded value) (folded (other (firstKeysym (setting .keyboard) (x .detail)) (secondKeysym (setting .keyboard) (x .detail)))))
+          (asked-in (firstKeysym (setting .keyboard) (x .detail)) (secondKeysym (setting .keyboard) (x .detail)) value set clear colon (x .state) (rw q at e)))
       go false q =
           let p : x .detail ≡ value = eqb-true (x .detail) value (rw q at e) in
           rw (q, p, ← w, eq-eqb (folded value) (folded value) refl) (or-assoc (eqb low 0) true true refl)
 
   module _ (l : List ℕ) (b : Bytes l) (i : ℕ) (f : EntryFacts l i) (r : EventRanges x) where
-    detail-seems : eventMeets map (eventEntry l i) x ≡ true → detailSeems (wordAt l (lowsAt + i)) (soughtOf map x) ≡ true
+    detail-seems : eventMeets setting (eventEntry l i) x ≡ true → detailSeems (wordAt l (lowsAt + i)) (soughtOf (setting .keyboard) x) ≡ true
     detail-seems m = go (isFlag 4 (flagsIn l i)) refl
       where
         state-met : stateMeets (eventEntry l i .set) (eventEntry l i .clear) (isFlag 2 (flagsIn l i)) (x .state) ≡ true
-        state-met = state-part map l i x m
+        state-met = state-part setting l i x m
 
-        go : (t : Bool) → isFlag 4 (flagsIn l i) ≡ t → detailSeems (wordAt l (lowsAt + i)) (soughtOf map x) ≡ true
+        go : (t : Bool) → isFlag 4 (flagsIn l i) ≡ t → detailSeems (wordAt l (lowsAt + i)) (soughtOf (setting .keyboard) x) ≡ true
         go true q =
-            asked (eventEntry l i .set) (eventEntry l i .clear) (isFlag 1 (flagsIn l i)) (valueIn l i) (wordAt l (lowsAt + i)) (low-is l b i) (meets-detail map l i x r state-met q ∙ m)
+            asked-seems (eventEntry l i .set) (eventEntry l i .clear) (isFlag 1 (flagsIn l i)) (valueIn l i) (wordAt l (lowsAt + i)) (low-is l b i) (meets-detail setting l i x r state-met q ∙ m)
         go false q = none-asked (wordAt l (lowsAt + i)) (f .bare q)
 
     -- ---- The event
 
-    module _ (limit before : ℕ) where
-      seems-fits : fitsAfter map limit before (elementOf (eventEntry l i) 0) x ≡ true → seems l i (soughtOf map x) ≡ true
+    module _ (before : ℕ) where
+      seems-fits : fitsAfter setting before (elementOf (eventEntry l i) 0) x ≡ true → seems l i (soughtOf (setting .keyboard) x) ≡ true
       unfolding fitsAfter elementOf seems
       seems-fits e =
           let p = chain-parts (eqb (elementCode (eventEntry l i .code) (eventEntry l i .count) 0) (x .code))
-          (eventMeets map (eventEntry l i) x ∷ (not (elementOf (eventEntry l i) 0 .timed) || quick limit before (x .time)) ∷ []) e in
-          let c : codeSeems (wordAt l (codesAt + i)) (soughtOf map x) ≡ true
-          = rw (f .codeWord) (first-code (eventEntry l i .code) (eventEntry l i .count) (soughtOf map x) (eqb-true (elementCode (eventEntry l i .code) (eventEntry l i .count) 0) (x .code) (p .0) ∙ sought-code map x)) in
-          and-both (codeSeems (wordAt l (codesAt + i)) (soughtOf map x)) (detailSeems (wordAt l (lowsAt + i)) (soughtOf map x)) c (detail-seems (p .1 .0))
+          (eventMeets setting (eventEntry l i) x ∷ (not (elementOf (eventEntry l i) 0 .timed) || quick (setting .time) before (x .time)) ∷ []) e in
+          let c : codeSeems (wordAt l (codesAt + i)) (soughtOf (setting .keyboard) x) ≡ true
+          = rw (f .codeWord) (first-code (eventEntry l i .code) (eventEntry l i .count) (soughtOf (setting .keyboard) x) (eqb-true (elementCode (eventEntry l i .code) (eventEntry l i .count) 0) (x .code) (p .0) ∙ sought-code (setting .keyboard) x)) in
+          and-both (codeSeems (wordAt l (codesAt + i)) (soughtOf (setting .keyboard) x)) (detailSeems (wordAt l (lowsAt + i)) (soughtOf (setting .keyboard) x)) c (detail-seems (p .1 .0))
 
-      suits-fits : fitsAfter map limit before (elementOf (eventEntry l i) 0) x ≡ true → suits l i (soughtOf map x) ≡ true
+      suits-fits : fitsAfter setting before (elementOf (eventEntry l i) 0) x ≡ true → suits l i (soughtOf (setting .keyboard) x) ≡ true
       unfolding fitsAfter elementOf
       suits-fits e =
           let p = chain-parts (eqb (elementCode (eventEntry l i .code) (eventEntry l i .count) 0) (x .code))
-          (eventMeets map (eventEntry l i) x ∷ (not (elementOf (eventEntry l i) 0 .timed) || quick limit before (x .time)) ∷ []) e in
-          suits-state map l i x f (state-part map l i x (p .1 .0))
+          (eventMeets setting (eventEntry l i) x ∷ (not (elementOf (eventEntry l i) 0 .timed) || quick (setting .time) before (x .time)) ∷ []) e in
+          suits-state (setting .keyboard) l i x f (state-part setting l i x (p .1 .0))
 
       -- an event that does not pass does not fit
-      pub fits-suits : suits l i (soughtOf map x) ≡ false → fitsAfter map limit before (elementOf (eventEntry l i) 0) x ≡ false
-      fits-suits q = go (fitsAfter map limit before (elementOf (eventEntry l i) 0) x) refl
+      pub fits-suits : suits l i (soughtOf (setting .keyboard) x) ≡ false → fitsAfter setting before (elementOf (eventEntry l i) 0) x ≡ false
+      fits-suits q = go (fitsAfter setting before (elementOf (eventEntry l i) 0) x) refl
         where
-          go : (t : Bool) → fitsAfter map limit before (elementOf (eventEntry l i) 0) x ≡ t → t ≡ false
+          go : (t : Bool) → fitsAfter setting before (elementOf (eventEntry l i) 0) x ≡ t → t ≡ false
           go true e = absurd (true≢false (sym (suits-fits e) ∙ q))
           go false e = refl
 
-      pub fits-seems : seems l i (soughtOf map x) ≡ false → fitsAfter map limit before (elementOf (eventEntry l i) 0) x ≡ false
-      fits-seems q = go (fitsAfter map limit before (elementOf (eventEntry l i) 0) x) refl
+      pub fits-seems : seems l i (soughtOf (setting .keyboard) x) ≡ false → fitsAfter setting before (elementOf (eventEntry l i) 0) x ≡ false
+      fits-seems q = go (fitsAfter setting before (elementOf (eventEntry l i) 0) x) refl
         where
-          go : (t : Bool) → fitsAfter map limit before (elementOf (eventEntry l i) 0) x ≡ t → t ≡ false
+          go : (t : Bool) → fitsAfter setting before (elementOf (eventEntry l i) 0) x ≡ t → t ≡ false
           go true e = absurd (true≢false (sym (seems-fits e) ∙ q))
           go false e = refl
 
 -- ---- A production
 
-module _ (map : List ℕ) (limit : ℕ) (l : List ℕ) (f : TableFacts l) (b : Bytes l) (first n : ℕ) (events : List Event) (from to : ℕ)
+module _ (setting : Setting) (l : List ℕ) (f : TableFacts l) (b : Bytes l) (first n : ℕ) (events : List Event) (from to : ℕ)
     (long : length events ≡ 25) (room : to ≤ 25) (m : from < to) (o : 1 ≤ n) (w : first + n ≤ eventTotal l)
     (ranges : (j : ℕ) → j < to → EventRanges (getD events j zeroEvent)) where
   abbrev x : ℕ → Event
@@ -178,20 +180,20 @@ module _ (map : List ℕ) (limit : ℕ) (l : List ℕ) (f : TableFacts l) (b : B
 
   -- whether event j fits the first element of event i
   abbrev fit : ℕ → ℕ → Bool
-  fit i j = fitsAfter map limit (x j .time) (elementOf (eventEntry l i) 0) (x j)
+  fit i j = fitsAfter setting (x j .time) (elementOf (eventEntry l i) 0) (x j)
 
-  suits-not : suits l first (soughtOf map (x from)) ≡ false → target map limit l first n events from to ≡ Followed.No
+  suits-not : suits l first (soughtOf (setting .keyboard) (x from)) ≡ false → target setting l first n events from to ≡ Followed.No
   suits-not q =
       let h : first < eventTotal l = omega arith in
-      walks-other map limit l first n events from to long room m o (fit first from) refl
-      (fits-suits map (x from) l b first (f .entry first h) (ranges from m) limit (x from .time) q)
+      walks-other setting l first n events from to long room m o (fit first from) refl
+      (fits-suits setting (x from) l b first (f .entry first h) (ranges from m) (x from .time) q)
 
   -- the first event of the stretch does not pass
-  pub seems-not : seems l first (soughtOf map (x from)) ≡ false → target map limit l first n events from to ≡ Followed.No
+  pub seems-not : seems l first (soughtOf (setting .keyboard) (x from)) ≡ false → target setting l first n events from to ≡ Followed.No
   seems-not q =
       let h : first < eventTotal l = omega arith in
-      walks-other map limit l first n events from to long room m o (fit first from) refl
-      (fits-seems map (x from) l b first (f .entry first h) (ranges from m) limit (x from .time) q)
+      walks-other setting l first n events from to long room m o (fit first from) refl
+      (fits-seems setting (x from) l b first (f .entry first h) (ranges from m) (x from .time) q)
 
   single : wordAt l (countsAt + first) ≤ 1 → 0 + 1 ≡ sizeIn l first
   unfolding sizeIn elementCount
@@ -201,59 +203,59 @@ module _ (map : List ℕ) (limit : ℕ) (l : List ℕ) (f : TableFacts l) (b : B
       rw (le-leb (eventEntry l first .count) 1 e)
 
   -- the first event of the production is met once, and the second event of the stretch does not pass at the next
-  second-not : wordAt l (countsAt + first) ≤ 1 → from + 1 < to → seems l (first + 1) (soughtOf map (x (from + 1))) ≡ false
-      → target map limit l first n events from to ≡ Followed.No
+  second-not : wordAt l (countsAt + first) ≤ 1 → from + 1 < to → seems l (first + 1) (soughtOf (setting .keyboard) (x (from + 1))) ≡ false
+      → target setting l first n events from to ≡ Followed.No
   second-not c h q = go (fit first from) refl
     where
       less : from ≤ to
       less = omega arith
 
-      turned : fit first from ≡ true → Walks map limit l first n events from to (first + 1) 0 (from + 1)
+      turned : fit first from ≡ true → Walks setting l first n events from to (first + 1) 0 (from + 1)
       turned e =
           let d : first < first + n = omega arith in
-          walks-turn map limit l first n events from to room first 0 from (walks-start map limit l first n events from to long less) d m from
+          walks-turn setting l first n events from to room first 0 from (walks-start setting l first n events from to long less) d m from
           (λ z. absurd (omega arith)) (fit first from) refl e (single c)
 
-      more : (t : Bool) → ltb (first + 1) (first + n) ≡ t → fit first from ≡ true → target map limit l first n events from to ≡ Followed.No
+      more : (t : Bool) → ltb (first + 1) (first + n) ≡ t → fit first from ≡ true → target setting l first n events from to ≡ Followed.No
       more true k e =
           let d : first + 1 < first + n = ltb-true (first + 1) (first + n) k in
           let i : first + 1 < eventTotal l = omega arith in
-          walks-no map limit l first n events from to room (first + 1) 0 (from + 1) (turned e) d h (from + 1) (λ z. absurd (omega arith))
+          walks-no setting l first n events from to room (first + 1) 0 (from + 1) (turned e) d h (from + 1) (λ z. absurd (omega arith))
           (fit (first + 1) (from + 1)) refl
-          (fits-seems map (x (from + 1)) l b (first + 1) (f .entry (first + 1) i) (ranges (from + 1) h) limit (x (from + 1) .time) q)
+          (fits-seems setting (x (from + 1)) l b (first + 1) (f .entry (first + 1) i) (ranges (from + 1) h) (x (from + 1) .time) q)
       more false k e =
-          walks-over map limit l first n events from to room (first + 1) 0 (from + 1) (turned e) (ltb-false (first + 1) (first + n) k) h
+          walks-over setting l first n events from to room (first + 1) 0 (from + 1) (turned e) (ltb-false (first + 1) (first + n) k) h
 
-      go : (t : Bool) → fit first from ≡ t → target map limit l first n events from to ≡ Followed.No
+      go : (t : Bool) → fit first from ≡ t → target setting l first n events from to ≡ Followed.No
       go true e = more (ltb (first + 1) (first + n)) refl e
-      go false e = walks-other map limit l first n events from to long room m o (fit first from) refl e
+      go false e = walks-other setting l first n events from to long room m o (fit first from) refl e
 
-  pub begins-not : mayBegin l (soughtOf map (x from)) first ≡ false → target map limit l first n events from to ≡ Followed.No
+  pub begins-not : mayBegin l (soughtOf (setting .keyboard) (x from)) first ≡ false → target setting l first n events from to ≡ Followed.No
   unfolding mayBegin
-  begins-not q = go (seems l first (soughtOf map (x from))) refl
+  begins-not q = go (seems l first (soughtOf (setting .keyboard) (x from))) refl
     where
-      go : (t : Bool) → seems l first (soughtOf map (x from)) ≡ t → target map limit l first n events from to ≡ Followed.No
+      go : (t : Bool) → seems l first (soughtOf (setting .keyboard) (x from)) ≡ t → target setting l first n events from to ≡ Followed.No
       go false e = seems-not e
       go true e = suits-not (rw e at q)
 
-  pub pairs-not : (two : Sought) → from + 1 < to → two ≡ soughtOf map (x (from + 1)) → pairs l (soughtOf map (x from)) two first ≡ false
-      → target map limit l first n events from to ≡ Followed.No
+  pub pairs-not : (two : Sought) → from + 1 < to → two ≡ soughtOf (setting .keyboard) (x (from + 1)) → pairs l (soughtOf (setting .keyboard) (x from)) two first ≡ false
+      → target setting l first n events from to ≡ Followed.No
   unfolding pairs
-  pairs-not two h et q = go (seems l first (soughtOf map (x from))) refl
+  pairs-not two h et q = go (seems l first (soughtOf (setting .keyboard) (x from))) refl
     where
       last : (s : Bool) → eqb (wordAt l (countsAt + first)) 1 ≡ s → (not s || seems l (first + 1) two) ≡ false
-          → target map limit l first n events from to ≡ Followed.No
+          → target setting l first n events from to ≡ Followed.No
       last true c r =
           let d : wordAt l (countsAt + first) ≡ 1 = eqb-true (wordAt l (countsAt + first)) 1 c in
           second-not (omega arith) h (ap (seems l (first + 1)) (sym et) ∙ r)
       last false c r = absurd (true≢false r)
 
-      go : (t : Bool) → seems l first (soughtOf map (x from)) ≡ t → target map limit l first n events from to ≡ Followed.No
+      go : (t : Bool) → seems l first (soughtOf (setting .keyboard) (x from)) ≡ t → target setting l first n events from to ≡ Followed.No
       go false e = seems-not e
       go true e = last (eqb (wordAt l (countsAt + first)) 1) refl (rw e at q)
 
   -- the code alone is another
-  pub code-not : codeBegins l (soughtOf map (x from)) first ≡ false → target map limit l first n events from to ≡ Followed.No
+  pub code-not : codeBegins l (soughtOf (setting .keyboard) (x from)) first ≡ false → target setting l first n events from to ≡ Followed.No
   unfolding codeBegins seems
   code-not q = seems-not (rw q)
 
@@ -318,12 +320,12 @@ module _ (f : ℕ → Bool) where
 
 -- an event that does not stand there begins no production along which the stretch reads as a prefix
 pub outside-of : (l map : List ℕ) (events : List Event) (from to : ℕ) (f : ℕ → Bool)
-    → ((limit first n : ℕ) → 1 ≤ n → first + n ≤ eventTotal l → f first ≡ false → target map limit l first n events from to ≡ Followed.No)
+    → ((setting : Setting) → setting .keyboard ≡ map → (first n : ℕ) → 1 ≤ n → first + n ≤ eventTotal l → f first ≡ false → target setting l first n events from to ≡ Followed.No)
     → (low high : ℕ) → PassersWithin f (eventTotal l) low high → Outside l map (drop from (take to events)) low high
 outside-of l map events from to f none-there low high w =
     record {
-      before = λ limit first n o b h. none-there limit first n o b (out first (omega arith) (λ d. absurd (omega (arith, d .0))));
-      after = λ limit first n o b h. none-there limit first n o b (out first (omega arith) (λ d. absurd (omega (arith, d .1))));
+      before = λ setting e first n o b h. none-there setting e first n o b (out first (omega arith) (λ d. absurd (omega (arith, d .0))));
+      after = λ setting e first n o b h. none-there setting e first n o b (out first (omega arith) (λ d. absurd (omega (arith, d .1))));
     }
   where
     out : (i : ℕ) → i < eventTotal l → ((low ≤ i) × (i < high) → f i ≡ false) → f i ≡ false
@@ -336,21 +338,26 @@ outside-of l map events from to f none-there low high w =
 module _ (map l : List ℕ) (f : TableFacts l) (b : Bytes l) (events : List Event) (from to : ℕ) (long : length events ≡ 25) (room : to ≤ 25)
     (m : from < to) (ranges : (j : ℕ) → j < to → EventRanges (getD events j zeroEvent)) (one : Sought)
     (eo : one ≡ soughtOf map (getD events from zeroEvent)) (low high : ℕ) where
+  -- under a setting with this map
+  sought-in : (setting : Setting) → setting .keyboard ≡ map → (j : ℕ) (s : Sought) → s ≡ soughtOf map (getD events j zeroEvent)
+      → soughtOf (setting .keyboard) (getD events j zeroEvent) ≡ s
+  sought-in setting e j s q = ap (λ (m : List ℕ). soughtOf m (getD events j zeroEvent)) e ∙ sym q
+
   pub outside-code : PassersWithin (codeBegins l one) (eventTotal l) low high → Outside l map (drop from (take to events)) low high
   outside-code =
       outside-of l map events from to (codeBegins l one)
-      (λ limit first n o w q. code-not map limit l f b first n events from to long room m o w ranges (ap (λ (s : Sought). codeBegins l s first) (sym eo) ∙ q))
+      (λ setting e first n o w q. code-not setting l f b first n events from to long room m o w ranges (ap (λ (s : Sought). codeBegins l s first) (sought-in setting e from one eo) ∙ q))
       low high
 
   pub outside-begins : PassersWithin (mayBegin l one) (eventTotal l) low high → Outside l map (drop from (take to events)) low high
   outside-begins =
       outside-of l map events from to (mayBegin l one)
-      (λ limit first n o w q. begins-not map limit l f b first n events from to long room m o w ranges (ap (λ (s : Sought). mayBegin l s first) (sym eo) ∙ q))
+      (λ setting e first n o w q. begins-not setting l f b first n events from to long room m o w ranges (ap (λ (s : Sought). mayBegin l s first) (sought-in setting e from one eo) ∙ q))
       low high
 
   pub outside-pairs : (two : Sought) → from + 1 < to → two ≡ soughtOf map (getD events (from + 1) zeroEvent)
       → PassersWithin (pairs l one two) (eventTotal l) low high → Outside l map (drop from (take to events)) low high
   outside-pairs two h et =
       outside-of l map events from to (pairs l one two)
-      (λ limit first n o w q. pairs-not map limit l f b first n events from to long room m o w ranges two h et (ap (λ (s : Sought). pairs l s two first) (sym eo) ∙ q))
+      (λ setting e first n o w q. pairs-not setting l f b first n events from to long room m o w ranges two h (sym (sought-in setting e (from + 1) two et)) (ap (λ (s : Sought). pairs l s two first) (sought-in setting e from one eo) ∙ q))
       low high

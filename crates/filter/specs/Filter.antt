@@ -1,5 +1,19 @@
 -- A quick test of the events of a table. One that begins a production along which a stretch reads as a prefix passes it
 -- (proofs/FilterLaws), so a production whose first event does not pass need not be walked.
+--
+-- One event, and the productions that it leaves: the key with the pair (0x61, 0x41) is pressed, no modifier is down, and the
+-- stretch is this event alone. What it asks of the table (`soughtOf`): code 2, state 0, and both its keysyms folded, which
+-- is without the bit in which cases differ, are 0x41. Of a table of four productions and five events
+--
+--     event   stands in               code / 2   low word, folded   seems   bits asked set   may begin
+--     0       Ctrl<KeyPress>a : ..    1          0x41               yes     Ctrl             no
+--     1       <KeyPress>b,            1          0x42               no                       no
+--     2           <KeyPress>A : ..    1          0x41               yes     none             yes
+--     3       <ButtonPress> : ..      2                             no                       no
+--     4       <KeyPress> : ..         1          0, for any         yes     none             yes
+--
+-- events 2 and 4 may begin a production, so one that begins before event 2 is passed over, and so is one that begins at event
+-- 3, which does not seem. No production begins at event 2. The last one alone is walked, and it is selected.
 use Prim.Native.Nat.{ℕ, _+_, _/_, _≤_, _<_}
 use mathlib.Core.Path.{_≡_}
 use mathlib.Core.Bool.{Bool, true, cond, not, _&&_, _||_}
@@ -11,6 +25,7 @@ use Rattle.words.specs.Words.{wordAt}
 use Rattle.words.specs.Runs.{run}
 use Rattle.keyboard.specs.Folds.{fold, folded}
 use Rattle.model.specs.Keyboard.{firstKeysym, secondKeysym}
+use Rattle.model.specs.Setting.{Setting}
 use Rattle.model.specs.Counts.{expanded}
 use Rattle.model.specs.declared.events.Event.{Event}
 use Rattle.tables.specs.Layout.{codesAt, countsAt, setsAt, lowsAt}
@@ -67,9 +82,10 @@ codeBegins l one i = codeSeems (wordAt l (codesAt + i)) one
 abbrev pub PassersWithin : (ℕ → Bool) → (n low high : ℕ) → Type 0
 PassersWithin f n low high = (i : ℕ) → i < n → f i ≡ true → (low ≤ i) × (i < high)
 
--- no production that begins with an event before `low`, or from `high` on, has the stretch as a prefix
+-- no production that begins with an event before `low`, or from `high` on, has the stretch as a prefix, whatever is set beside
+-- the keyboard map
 pub record Outside (l map : List ℕ) (xs : List Event) (low high : ℕ) : Type 0 where
-  pub before : (limit first n : ℕ) → 1 ≤ n → first + n ≤ eventTotal l → first < low
-      → walked map limit none none (expanded (run (eventEntry l) first n)) xs ≡ Followed.No
-  pub after : (limit first n : ℕ) → 1 ≤ n → first + n ≤ eventTotal l → high ≤ first
-      → walked map limit none none (expanded (run (eventEntry l) first n)) xs ≡ Followed.No
+  pub before : (setting : Setting) → setting .keyboard ≡ map → (first n : ℕ) → 1 ≤ n → first + n ≤ eventTotal l → first < low
+      → walked setting none none (expanded (run (eventEntry l) first n)) xs ≡ Followed.No
+  pub after : (setting : Setting) → setting .keyboard ≡ map → (first n : ℕ) → 1 ≤ n → first + n ≤ eventTotal l → high ≤ first
+      → walked setting none none (expanded (run (eventEntry l) first n)) xs ≡ Followed.No

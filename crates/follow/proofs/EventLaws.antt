@@ -8,6 +8,8 @@ use mathlib.Core.Option.{Option}
 use lib.Dec.{eqb}
 use Rattle.model.specs.Keyboard.{firstKeysym, secondKeysym}
 use Rattle.model.specs.Modifiers.{stateMeets}
+use Rattle.model.specs.Setting.{Setting}
+use Rattle.model.specs.Asked.{asked, testMet}
 use Rattle.model.specs.Counts.{Element, quick}
 use Rattle.model.specs.Matching.{detailMet, meets, inTime, fits}
 use Rattle.model.specs.declared.events.Event.{Event}
@@ -41,25 +43,25 @@ pub other-detail : (map : List ℕ) (set clear : ℕ) (colon : Bool) (value : �
 unfolding detailAsked
 other-detail map set clear colon value x l = rw (lt-leb (x .code) 3 l)
 
-asked-met : (map : List ℕ) (e : KeptEvent) (value : ℕ) (x : Event) → EventRanges x
-    → detailAsked map (e .set) (e .clear) (e .colon) value x ≡ detailMet map e (Detail.Value value) x
-unfolding detailAsked
-asked-met map e value x r =
-    rw (le-leb 2 (x .code) (r .code-least), key-matches map e (x .detail) (x .state) value)
+asked-met : (setting : Setting) (e : KeptEvent) (value : ℕ) (x : Event) → EventRanges x
+    → detailAsked (setting .keyboard) (e .set) (e .clear) (e .colon) value x ≡ detailMet setting e (Detail.Value value) x
+unfolding detailAsked asked
+asked-met setting e value x r =
+    rw (le-leb 2 (x .code) (r .code-least), key-matches setting e (x .detail) (x .state) value)
 
 -- ---- The event
 
-module _ (map : List ℕ) (l : List ℕ) (i : ℕ) (x : Event) (r : EventRanges x) where
+module _ (setting : Setting) (l : List ℕ) (i : ℕ) (x : Event) (r : EventRanges x) where
   -- the state does not meet the test
   pub meets-not : stateMeets (eventEntry l i .set) (eventEntry l i .clear) (isFlag 2 (flagsIn l i)) (x .state) ≡ false
-      → eventMeets map (eventEntry l i) x ≡ false
-  unfolding eventMeets eventEntry eventFromWords flagsIn
+      → eventMeets setting (eventEntry l i) x ≡ false
+  unfolding eventMeets testMet asked eventEntry eventFromWords flagsIn
   meets-not q = rw q
 
   -- no detail is asked for
   pub meets-any : stateMeets (eventEntry l i .set) (eventEntry l i .clear) (isFlag 2 (flagsIn l i)) (x .state) ≡ true
-      → isFlag 4 (flagsIn l i) ≡ false → eventMeets map (eventEntry l i) x ≡ true
-  unfolding eventMeets eventEntry eventFromWords flagsIn
+      → isFlag 4 (flagsIn l i) ≡ false → eventMeets setting (eventEntry l i) x ≡ true
+  unfolding eventMeets testMet asked eventEntry eventFromWords flagsIn
   meets-any q g = rw (q, g)
 
   given-detail : isFlag 4 (flagsIn l i) ≡ true → eventEntry l i .detail ≡ Detail.Value (valueIn l i)
@@ -68,44 +70,44 @@ module _ (map : List ℕ) (l : List ℕ) (i : ℕ) (x : Event) (r : EventRanges 
 
   pub meets-detail : stateMeets (eventEntry l i .set) (eventEntry l i .clear) (isFlag 2 (flagsIn l i)) (x .state) ≡ true
       → isFlag 4 (flagsIn l i) ≡ true
-      → detailAsked map (eventEntry l i .set) (eventEntry l i .clear) (isFlag 1 (flagsIn l i)) (valueIn l i) x ≡ eventMeets map (eventEntry l i) x
-  unfolding eventMeets eventEntry eventFromWords flagsIn
+      → detailAsked (setting .keyboard) (eventEntry l i .set) (eventEntry l i .clear) (isFlag 1 (flagsIn l i)) (valueIn l i) x ≡ eventMeets setting (eventEntry l i) x
+  unfolding eventMeets testMet asked eventEntry eventFromWords flagsIn
   meets-detail q g =
-      asked-met map (eventEntry l i) (valueIn l i) x r
-      ∙ sym (ap (λ (d : Detail). detailMet map (eventEntry l i) d x) (given-detail g))
-      ∙ sym (ap (λ (b : Bool). b && detailMet map (eventEntry l i) (eventEntry l i .detail) x) q)
+      asked-met setting (eventEntry l i) (valueIn l i) x r
+      ∙ sym (ap (λ (d : Detail). detailMet setting (eventEntry l i) d x) (given-detail g))
+      ∙ sym (ap (λ (b : Bool). b && detailMet setting (eventEntry l i) (eventEntry l i .detail) x) q)
 
 -- ---- The element
 
-module _ (map : List ℕ) (limit before : ℕ) (e : KeptEvent) (k : ℕ) (x : Event) where
-  pub fits-other : (elementOf e k .code ≡ x .code → ⊥) → fitsAfter map limit before (elementOf e k) x ≡ false
+module _ (setting : Setting) (before : ℕ) (e : KeptEvent) (k : ℕ) (x : Event) where
+  pub fits-other : (elementOf e k .code ≡ x .code → ⊥) → fitsAfter setting before (elementOf e k) x ≡ false
   unfolding fitsAfter
   fits-other n = rw (ne-eqb (elementOf e k .code) (x .code) n)
 
-  pub fits-not : elementOf e k .code ≡ x .code → eventMeets map e x ≡ false → fitsAfter map limit before (elementOf e k) x ≡ false
+  pub fits-not : elementOf e k .code ≡ x .code → eventMeets setting e x ≡ false → fitsAfter setting before (elementOf e k) x ≡ false
   unfolding fitsAfter elementOf
   fits-not c q = rw (eq-eqb (elementOf e k .code) (x .code) c, q)
 
-  pub fits-untimed : elementOf e k .code ≡ x .code → eventMeets map e x ≡ true → elementOf e k .timed ≡ false
-      → fitsAfter map limit before (elementOf e k) x ≡ true
+  pub fits-untimed : elementOf e k .code ≡ x .code → eventMeets setting e x ≡ true → elementOf e k .timed ≡ false
+      → fitsAfter setting before (elementOf e k) x ≡ true
   unfolding fitsAfter elementOf
   fits-untimed c q t = rw (eq-eqb (elementOf e k .code) (x .code) c, q, t)
 
-  pub fits-timed : elementOf e k .code ≡ x .code → eventMeets map e x ≡ true → elementOf e k .timed ≡ true
-      → fitsAfter map limit before (elementOf e k) x ≡ quick limit before (x .time)
+  pub fits-timed : elementOf e k .code ≡ x .code → eventMeets setting e x ≡ true → elementOf e k .timed ≡ true
+      → fitsAfter setting before (elementOf e k) x ≡ quick (setting .time) before (x .time)
   unfolding fitsAfter elementOf
   fits-timed c q t = rw (eq-eqb (elementOf e k .code) (x .code) c, q, t)
 
 -- model's test, where the event two before is there if the element is timed
-pub fits-same : (map : List ℕ) (limit before : ℕ) (two : Option Event) (el : Element) (x : Event)
-    → (el .timed ≡ true → inTime limit two x ≡ quick limit before (x .time))
-    → fits map limit two el x ≡ fitsAfter map limit before el x
+pub fits-same : (setting : Setting) (before : ℕ) (two : Option Event) (el : Element) (x : Event)
+    → (el .timed ≡ true → inTime setting two x ≡ quick (setting .time) before (x .time))
+    → fits setting two el x ≡ fitsAfter setting before el x
 unfolding fitsAfter meets eventMeets
-fits-same map limit before two el x h = go (el .timed) refl
+fits-same setting before two el x h = go (el .timed) refl
   where
-    front : meets map el x ≡ eqb (el .code) (x .code) && eventMeets map (el .event) x
+    front : meets setting el x ≡ eqb (el .code) (x .code) && eventMeets setting (el .event) x
     front = and-assoc (eqb (el .code) (x .code)) _ _
 
-    go : (t : Bool) → el .timed ≡ t → fits map limit two el x ≡ fitsAfter map limit before el x
+    go : (t : Bool) → el .timed ≡ t → fits setting two el x ≡ fitsAfter setting before el x
     go true q = rw (q, front, h q)
     go false q = rw (q, front)

@@ -11,6 +11,7 @@ use lib.Dec.{eqb, ltb, leb·suc-suc}
 use lib.ListN.{length, getD, take, drop, length-append, List·getD-append}
 use lib.Seq.{drop-cons, drop-at, drop-nil, getD-take, slice-empty, length-take-le}
 use Rattle.words.specs.Runs.{run}
+use Rattle.model.specs.Setting.{Setting}
 use Rattle.model.specs.Counts.{Element, elementsOf, expanded, quick}
 use Rattle.model.specs.Matching.{inTime, fits}
 use Rattle.model.specs.declared.events.Event.{Event}
@@ -78,14 +79,14 @@ module _ (l : List ℕ) (last : ℕ) where
 abbrev ago : ℕ → ℕ → Event → Option Event
 ago d i x = cond (ltb i d) none (some x)
 
-module _ (map : List ℕ) (limit : ℕ) (l : List ℕ) (last : ℕ) (events : List Event) (from to : ℕ) where
+module _ (setting : Setting) (l : List ℕ) (last : ℕ) (events : List Event) (from to : ℕ) where
   pub rest : ℕ → ℕ → ℕ → Followed
   rest i k j =
-      walked map limit (ago 2 (j - from) (getD events (j - 2) zeroEvent)) (ago 1 (j - from) (getD events (j - 1) zeroEvent))
+      walked setting (ago 2 (j - from) (getD events (j - 2) zeroEvent)) (ago 1 (j - from) (getD events (j - 1) zeroEvent))
       (left l last i k) (drop j (take to events))
 
   pub rest-start : (i : ℕ)
-      → walked map limit none none (expanded (run (eventEntry l) i (last - i))) (drop from (take to events)) ≡ rest i 0 from
+      → walked setting none none (expanded (run (eventEntry l) i (last - i))) (drop from (take to events)) ≡ rest i 0 from
   unfolding rest left
   rest-start i = let z : from - from ≡ 0 = omega arith in rw z
 
@@ -112,20 +113,20 @@ module _ (map : List ℕ) (limit : ℕ) (l : List ℕ) (last : ℕ) (events : Li
 
     module _ (i k j at : ℕ) (h : i < last) (m : k < sizeIn l i) (b : j < to) (f : k + from ≤ j) (a : 2 ≤ k → at ≡ j - 2) where
       abbrev now : Bool
-      now = fitsAfter map limit (getD events at zeroEvent .time) (elementOf (eventEntry l i) k) (getD events j zeroEvent)
+      now = fitsAfter setting (getD events at zeroEvent .time) (elementOf (eventEntry l i) k) (getD events j zeroEvent)
 
       timed : elementOf (eventEntry l i) k .timed ≡ true
-          → inTime limit (ago 2 (j - from) (getD events (j - 2) zeroEvent)) (getD events j zeroEvent)
-          ≡ quick limit (getD events at zeroEvent .time) (getD events j zeroEvent .time)
+          → inTime setting (ago 2 (j - from) (getD events (j - 2) zeroEvent)) (getD events j zeroEvent)
+          ≡ quick (setting .time) (getD events at zeroEvent .time) (getD events j zeroEvent .time)
       unfolding elementOf
       timed q =
           let p : 2 ≤ k = timed-later (eventEntry l i .code) (eventEntry l i .count) k q in
           let e : at ≡ j - 2 = a p in
           rw (le-ltb (j - from) 2 (omega arith), e)
 
-      same : fits map limit (ago 2 (j - from) (getD events (j - 2) zeroEvent)) (elementOf (eventEntry l i) k) (getD events j zeroEvent) ≡ now
+      same : fits setting (ago 2 (j - from) (getD events (j - 2) zeroEvent)) (elementOf (eventEntry l i) k) (getD events j zeroEvent) ≡ now
       same =
-          fits-same map limit (getD events at zeroEvent .time) (ago 2 (j - from) (getD events (j - 2) zeroEvent))
+          fits-same setting (getD events at zeroEvent .time) (ago 2 (j - from) (getD events (j - 2) zeroEvent))
           (elementOf (eventEntry l i) k) (getD events j zeroEvent) timed
 
       step : rest i k j ≡ cond now (rest i (k + 1) (j + 1)) Followed.No
@@ -154,9 +155,9 @@ module _ (map : List ℕ) (limit : ℕ) (l : List ℕ) (last : ℕ) (events : Li
 
 -- ---- The walk of a production
 
-module _ (map : List ℕ) (limit : ℕ) (l : List ℕ) (first n : ℕ) (events : List Event) (from to : ℕ) where
+module _ (setting : Setting) (l : List ℕ) (first n : ℕ) (events : List Event) (from to : ℕ) where
   abbrev pub target : Followed
-  target = walked map limit none none (expanded (run (eventEntry l) first n)) (drop from (take to events))
+  target = walked setting none none (expanded (run (eventEntry l) first n)) (drop from (take to events))
 
   -- where the walk stands: at element k of event i, and at event j of the stretch
   pub record Walks (i k j : ℕ) : Type 0 where
@@ -166,7 +167,7 @@ module _ (map : List ℕ) (limit : ℕ) (l : List ℕ) (first n : ℕ) (events :
     pub most : j ≤ to
     pub inside : i < first + n → k < sizeIn l i
     pub long : length events ≡ 25
-    pub comes : target ≡ rest map limit l (first + n) events from to i k j
+    pub comes : target ≡ rest setting l (first + n) events from to i k j
 
   pub walks-start : length events ≡ 25 → from ≤ to → Walks first 0 from
   walks-start h m =
@@ -178,24 +179,24 @@ module _ (map : List ℕ) (limit : ℕ) (l : List ℕ) (first n : ℕ) (events :
         most = m;
         inside = λ q. size-pos l (first + n) first;
         long = h;
-        comes = ap (λ (q : ℕ). walked map limit none none (expanded (run (eventEntry l) first q)) (drop from (take to events))) e
-            ∙ rest-start map limit l (first + n) events from to first;
+        comes = ap (λ (q : ℕ). walked setting none none (expanded (run (eventEntry l) first q)) (drop from (take to events))) e
+            ∙ rest-start setting l (first + n) events from to first;
       }
 
   module _ (room : to ≤ 25) (i k j : ℕ) (w : Walks i k j) where
     -- the elements are used up before the events
     pub walks-over : first + n ≤ i → j < to → target ≡ Followed.No
-    walks-over h m = w .comes ∙ rest-over map limit l (first + n) events from to (w .long) room i k j h m
+    walks-over h m = w .comes ∙ rest-over setting l (first + n) events from to (w .long) room i k j h m
 
     module _ (h : i < first + n) (m : j < to) (at : ℕ) (a : 2 ≤ k → at ≡ j - 2) (r : Bool)
-        (e : r ≡ fitsAfter map limit (getD events at zeroEvent .time) (elementOf (eventEntry l i) k) (getD events j zeroEvent)) where
+        (e : r ≡ fitsAfter setting (getD events at zeroEvent .time) (elementOf (eventEntry l i) k) (getD events j zeroEvent)) where
       pub walks-no : r ≡ false → target ≡ Followed.No
       walks-no q =
-          w .comes ∙ rest-no map limit l (first + n) events from to (w .long) room i k j at h (w .inside h) m (w .started) a r e q
+          w .comes ∙ rest-no setting l (first + n) events from to (w .long) room i k j at h (w .inside h) m (w .started) a r e q
 
-      on : r ≡ true → target ≡ rest map limit l (first + n) events from to i (k + 1) (j + 1)
+      on : r ≡ true → target ≡ rest setting l (first + n) events from to i (k + 1) (j + 1)
       on q =
-          w .comes ∙ rest-on map limit l (first + n) events from to (w .long) room i k j at h (w .inside h) m (w .started) a r e q
+          w .comes ∙ rest-on setting l (first + n) events from to (w .long) room i k j at h (w .inside h) m (w .started) a r e q
 
       -- the next element of the same event
       pub walks-on : r ≡ true → (k + 1 ≡ sizeIn l i → ⊥) → Walks i (k + 1) (j + 1)
@@ -225,24 +226,24 @@ module _ (map : List ℕ) (limit : ℕ) (l : List ℕ) (first n : ℕ) (events :
             most = omega arith;
             inside = λ z. size-pos l (first + n) (i + 1);
             long = w .long;
-            comes = on q ∙ rest-turn map limit l (first + n) events from to i (k + 1) (j + 1) h d;
+            comes = on q ∙ rest-turn setting l (first + n) events from to i (k + 1) (j + 1) h d;
           }
 
     pub walks-prefix : to ≤ j → i < first + n → target ≡ Followed.Prefix
     walks-prefix b h =
         let m = w .most in
         let e : j ≡ to = omega arith in
-        w .comes ∙ rest-prefix map limit l (first + n) events from to i k j h (w .inside h) e
+        w .comes ∙ rest-prefix setting l (first + n) events from to i k j h (w .inside h) e
 
     pub walks-whole : to ≤ j → first + n ≤ i → target ≡ Followed.Whole
     walks-whole b h =
         let m = w .most in
         let e : j ≡ to = omega arith in
-        w .comes ∙ rest-whole map limit l (first + n) events from to i k j h e
+        w .comes ∙ rest-whole setting l (first + n) events from to i k j h e
 
   -- the first event does not fit the first element
   pub walks-other : length events ≡ 25 → to ≤ 25 → from < to → 1 ≤ n → (r : Bool)
-      → r ≡ fitsAfter map limit (getD events from zeroEvent .time) (elementOf (eventEntry l first) 0) (getD events from zeroEvent)
+      → r ≡ fitsAfter setting (getD events from zeroEvent .time) (elementOf (eventEntry l first) 0) (getD events from zeroEvent)
       → r ≡ false → target ≡ Followed.No
   walks-other h room m o r e q =
       let b : from ≤ to = omega arith in

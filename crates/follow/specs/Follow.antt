@@ -8,7 +8,8 @@ use mathlib.Core.Option.{Option, some}
 use lib.Dec.{eqb, leb}
 use lib.ListN.{length, getD}
 use Rattle.model.specs.Keyboard.{firstKeysym, secondKeysym}
-use Rattle.model.specs.Modifiers.{stateMeets}
+use Rattle.model.specs.Setting.{Setting}
+use Rattle.model.specs.Asked.{asked, testMet}
 use Rattle.model.specs.Counts.{Element, element, quick}
 use Rattle.model.specs.Matching.{detailMet, fits}
 use Rattle.model.specs.declared.events.Event.{Event}
@@ -24,8 +25,8 @@ use Rattle.follow.specs.declared.Followed.{Followed}
 -- ---- One event
 
 -- modifiers and detail
-unfoldable pub eventMeets : List ℕ → KeptEvent → Event → Bool
-eventMeets map e x = stateMeets (e .set) (e .clear) (e .clause) (x .state) && detailMet map e (e .detail) x
+unfoldable pub eventMeets : Setting → KeptEvent → Event → Bool
+eventMeets setting e x = testMet (asked setting e) (x .state) && detailMet setting e (e .detail) x
 
 -- the same of a given detail, by the numbers that a table holds
 unfoldable pub detailAsked : List ℕ → (set clear : ℕ) (colon : Bool) (value : ℕ) → Event → Bool
@@ -39,19 +40,19 @@ unfoldable pub elementOf : KeptEvent → ℕ → Element
 elementOf e k = element (elementCode (e .code) (e .count) k) (isTimed (e .code) (e .count) k) e
 
 -- the element fits an event, where `before` is the time of the event two before it in the stretch
-unfoldable pub fitsAfter : List ℕ → ℕ → ℕ → Element → Event → Bool
-fitsAfter map limit before el x =
-    eqb (el .code) (x .code) && eventMeets map (el .event) x && (not (el .timed) || quick limit before (x .time))
+unfoldable pub fitsAfter : Setting → ℕ → Element → Event → Bool
+fitsAfter setting before el x =
+    eqb (el .code) (x .code) && eventMeets setting (el .event) x && (not (el .timed) || quick (setting .time) before (x .time))
 
 -- ---- One production
 
 -- what the walk comes to; the events two and one before the stretch are given
-unfoldable pub walked : List ℕ → ℕ → Option Event → Option Event → List Element → List Event → Followed
-walked map limit twoBefore oneBefore [] [] = Followed.Whole
-walked map limit twoBefore oneBefore (el ∷ els) [] = Followed.Prefix
-walked map limit twoBefore oneBefore [] (x ∷ xs) = Followed.No
-walked map limit twoBefore oneBefore (el ∷ els) (x ∷ xs) =
-    cond (fits map limit twoBefore el x) (walked map limit oneBefore (some x) els xs) Followed.No
+unfoldable pub walked : Setting → Option Event → Option Event → List Element → List Event → Followed
+walked setting twoBefore oneBefore [] [] = Followed.Whole
+walked setting twoBefore oneBefore (el ∷ els) [] = Followed.Prefix
+walked setting twoBefore oneBefore [] (x ∷ xs) = Followed.No
+walked setting twoBefore oneBefore (el ∷ els) (x ∷ xs) =
+    cond (fits setting twoBefore el x) (walked setting oneBefore (some x) els xs) Followed.No
 
 -- how many elements event i has
 unfoldable pub sizeIn : List ℕ → ℕ → ℕ

@@ -2,14 +2,14 @@
 ghost use mathlib.Core.Path.{_≡_};
 ghost use mathlib.Core.Bool.{true};
 ghost use mathlib.Core.Option.{none};
-ghost use Prim.Native.Nat.{_+_, _-_, _≤_, _<_};
+ghost use Prim.Native.Nat.{ℕ, _+_, _-_, _≤_, _<_};
 ghost use lib.ListN.{length, take, drop};
 ghost use Rattle.records.specs.Ranges.{EventRanges};
 ghost use Rattle.tables.specs.Reading.{eventTotal, eventEntry};
 ghost use Rattle.tables.specs.Whole.{whole};
 ghost use Rattle.words.specs.Runs.{run};
 ghost use Rattle.model.specs.Counts.{expanded};
-ghost use Rattle.keyboard.specs.Maps.{mapNumbers};
+ghost use Rattle.keyboard.specs.Maps.{mapNumbers, lentSetting};
 ghost use Rattle.states.specs.State.{slotsOf};
 ghost use Rattle.follow.specs.Follow.{eventMeets, detailAsked, elementOf, fitsAfter, walked, sizeIn, WalkReady};
 use model::events::Event;
@@ -36,10 +36,10 @@ fn detail_met(map: &[u8], set: u16, clear: u16, colon: bool, value: u32, x: Even
     x.detail as u32 == value
 }
 
-// Whether an event meets the test and the detail of event i of a table.
+// Whether an event meets the test and the detail of event i of a table, whatever the multi-click time.
 fn event_meets(table: &[u8], map: &[u8], i: usize, x: Event) -> bool
     requires { ⌜ ((whole (now table) ≡ true) × (i < eventTotal (now table))) × ((length (mapNumbers (now map)) ≡ 496) × EventRanges x) ⌝ }
-    ensures { λ r. ⌜ r ≡ eventMeets (mapNumbers (now (map .entry))) (eventEntry (now (table .entry)) i) x ⌝ }
+    ensures { λ r. ⌜ ((limit : ℕ) → r ≡ eventMeets (lentSetting (now (map .entry)) limit) (eventEntry (now (table .entry)) i) x) ⌝ }
 {
     let set = fields::set_at(table, i);
     let clear = fields::clear_at(table, i);
@@ -71,7 +71,7 @@ fn element_fits(
     x: Event,
 ) -> bool
     requires { ⌜ ((whole (now table) ≡ true) × (i < eventTotal (now table))) × ((length (mapNumbers (now map)) ≡ 496) × EventRanges x) ⌝ }
-    ensures { λ r. ⌜ r ≡ fitsAfter (mapNumbers (now (map .entry))) limit before (elementOf (eventEntry (now (table .entry)) i) k) x ⌝ }
+    ensures { λ r. ⌜ r ≡ fitsAfter (lentSetting (now (map .entry)) limit) before (elementOf (eventEntry (now (table .entry)) i) k) x ⌝ }
 {
     let code = fields::code_at(table, i);
     let count = fields::count_at(table, i);
@@ -120,7 +120,7 @@ pub fn follow(
     to: usize,
 ) -> Followed
     requires { ⌜ WalkReady (now table) (mapNumbers (now map)) (now events) to × (from ≤ to) × (first + n ≤ eventTotal (now table)) ⌝ }
-    ensures { λ r. ⌜ r ≡ walked (mapNumbers (now (map .entry))) limit none none (expanded (run (eventEntry (now (table .entry))) first n)) (drop from (take to (slotsOf (now (events .entry))))) ⌝ }
+    ensures { λ r. ⌜ r ≡ walked (lentSetting (now (map .entry)) limit) none none (expanded (run (eventEntry (now (table .entry))) first n)) (drop from (take to (slotsOf (now (events .entry))))) ⌝ }
 {
     let last = first + n;
     let mut i = first;

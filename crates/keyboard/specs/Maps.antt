@@ -6,6 +6,7 @@ use lib.Dec.{eqb}
 use lib.ListN.{length, getD}
 use Rattle.words.specs.Runs.{run}
 use Rattle.model.specs.Limits.{mapLength}
+use Rattle.model.specs.Setting.{Setting}
 
 -- how many bytes a map has
 abbrev pub mapBytes : ℕ
@@ -18,3 +19,7 @@ numberFrom l at = getD l at 0 + 256 * getD l (at + 1) 0 + 65536 * getD l (at + 2
 -- the numbers that the bytes of a map hold; of any other length of bytes none, which are not 496 numbers
 unfoldable pub mapNumbers : List ℕ → List ℕ
 mapNumbers l = cond (eqb (length l) mapBytes) (run (λ k. numberFrom l (4 * k)) 0 mapLength) []
+
+-- the setting of a call that lends these bytes of a map, and the multi-click time
+abbrev pub lentSetting : (bytes : List ℕ) → (time : ℕ) → Setting
+lentSetting bytes time = record { keyboard = mapNumbers bytes; time = time }

@@ -1,3 +1,4 @@
 pub mod MoveLaws
 pub mod MatchLaws
 pub mod NextLaws
+pub mod AnswerLaws

@@ -1,21 +1,25 @@
 -- The ways that a call can go.
 use Prim.Native.Nat.{ℕ, _≤_}
 use native.Mathlib.Omega.{arith}
-use borrow.Author.Tests.{eqb-true, eq-eqb, ne-eqb, lt-ltb, le-ltb}
+use borrow.Author.Tests.{eqb-true, eqb-false, eq-eqb, ne-eqb}
 use mathlib.Core.Path.{_≡_, refl, sym, ap, _∙_}
 use mathlib.Core.Bool.{Bool, true, false, cond, not, _||_, false≢true}
 use mathlib.Core.List.{List}
 use lib.Dec.{eqb, ltb}
 use lib.ListN.{length}
+use Rattle.model.specs.Setting.{Setting}
 use Rattle.model.specs.Lists.{any}
-use Rattle.model.specs.Numbers.{badRecord, matchOrder, recordNumber}
+use Rattle.model.specs.Numbers.{MatchChecks, badRecord, matchOrder, recordNumber}
 use Rattle.model.specs.Records.{isBadRecord, recordRead, eventOf, codeOf}
 use Rattle.model.specs.Matching.{hasType}
 use Rattle.model.specs.Demand.{MatchCall}
 use Rattle.model.specs.declared.events.Event.{Event}
 use Rattle.model.specs.declared.answers.RecordRead.{RecordRead}
 use Rattle.model.specs.declared.answers.Matched.{Matched}
+use Rattle.keyboard.specs.Maps.{mapNumbers}
+use Rattle.keyboard.proofs.Maps.{map-bytes, map-numbers}
 use Rattle.machine.specs.Kept.{passesContext, stepNumber, act, hear, dropEvent, stepped}
+use Rattle.machine.proofs.Checks.{NoneApplies, none-applies}
 use Rattle.machine.proofs.Limits.{never-full}
 use Rattle.tables.specs.Layout.{tableLength}
 use Rattle.tables.specs.Reading.{decode}
@@ -23,7 +27,7 @@ use Rattle.tables.specs.Whole.{whole}
 use Rattle.states.specs.declared.State.{State}
 use Rattle.matcher.specs.declared.Answer.{Answer}
 use Rattle.states.specs.State.{keptOf, wholeState}
-use Rattle.matcher.specs.Match.{stepAnswer, refusedWith, tooShort, matchNumber, callAnswer}
+use Rattle.matcher.specs.Match.{stepAnswer, refusedWith, tooShort, earlyChecks, matchNumber, callAnswer}
 use Rattle.states.proofs.StateLaws.{state-facts, state-kept}
 use Rattle.fields.proofs.TableFacts.{table-facts}
 
@@ -31,27 +35,17 @@ use Rattle.fields.proofs.TableFacts.{table-facts}
 
 -- the number of the checks that do not look at the record
 abbrev early : Bool → Bool → Bool → ℕ
-early short table state = matchOrder short table state false false
+early short table state = matchOrder (earlyChecks short table state)
 
-early-same : (a b c bad full : Bool) → (early a b c ≡ 0 → ⊥) → matchOrder a b c bad full ≡ early a b c
+early-same : (a b c bad full : Bool) → (early a b c ≡ 0 → ⊥)
+    → matchOrder (record { short = a; tableBroken = b; stateBroken = c; recordBad = bad; full = full }) ≡ early a b c
 early-same true b c bad full n = refl
 early-same false true c bad full n = refl
 early-same false false true bad full n = refl
 early-same false false false bad full n = absurd (n refl)
 
-pub record Passes (a b c : Bool) : Type 0 where
-  pub short : a ≡ false
-  pub table : b ≡ false
-  pub state : c ≡ false
-
 one≢ : (n : ℕ) → 1 ≤ n → n ≡ 0 → ⊥
 one≢ n h e = omega arith
-
-early-passes : (a b c : Bool) → early a b c ≡ 0 → Passes a b c
-early-passes true b c e = absurd (one≢ 1 (omega arith) e)
-early-passes false true c e = absurd (one≢ 12 (omega arith) e)
-early-passes false false true e = absurd (one≢ 14 (omega arith) e)
-early-passes false false false e = record { short = refl; table = refl; state = refl }
 
 not-is : (b : Bool) → not b ≡ false → b ≡ true
 not-is true q = refl
@@ -59,17 +53,13 @@ not-is false q = absurd (false≢true (sym q))
 
 -- ---- Buffers
 
-pub short-table : (table map : List ℕ) → length table ≤ 5903 → tooShort table map ≡ true
-unfolding tooShort
-short-table table map h = rw (lt-ltb (length table) tableLength (omega arith))
-
-pub short-map : (table map : List ℕ) → tableLength ≤ length table → (length map ≡ 496 → ⊥) → tooShort table map ≡ true
-unfolding tooShort
-short-map table map h n = rw (le-ltb (length table) tableLength h, ne-eqb (length map) 496 n)
-
-pub not-short : (table map : List ℕ) → tableLength ≤ length table → length map ≡ 496 → tooShort table map ≡ false
-unfolding tooShort
-not-short table map h e = rw (le-ltb (length table) tableLength h, eq-eqb (length map) 496 e)
+-- a map has 496 numbers exactly where its bytes are 1984
+pub map-long : (bytes : List ℕ) → eqb (length bytes) 1984 ≡ eqb (length (mapNumbers bytes)) 496
+map-long bytes = go (eqb (length bytes) 1984) refl
+  where
+    go : (b : Bool) → eqb (length bytes) 1984 ≡ b → b ≡ eqb (length (mapNumbers bytes)) 496
+    go true q = sym (eq-eqb (length (mapNumbers bytes)) 496 (map-numbers bytes (eqb-true (length bytes) 1984 q)))
+    go false q = sym (ne-eqb (length (mapNumbers bytes)) 496 (λ h. eqb-false (length bytes) 1984 q (map-bytes bytes h)))
 
 or-right : (a b : Bool) → (a || b) ≡ false → b ≡ false
 or-right true b e = absurd (false≢true (sym e))
@@ -83,46 +73,65 @@ mapped table map e =
 
 -- ---- A call
 
-module _ (table map : List ℕ) (limit : ℕ) (s : State) (c : MatchCall) where
+module _ (table : List ℕ) (setting : Setting) (s : State) (c : MatchCall) where
   abbrev t-short : Bool
-  t-short = tooShort table map
+  t-short = tooShort table (setting .keyboard)
 
   abbrev first-number : ℕ
   first-number = early t-short (not (whole table)) (not (wholeState s))
 
-  refused-answer : (n : ℕ) → matchNumber table map limit s c ≡ n → (n ≡ 0 → ⊥) → callAnswer table map limit s c ≡ refusedWith n s
+  refused-answer : (n : ℕ) → matchNumber table setting s c ≡ n → (n ≡ 0 → ⊥) → callAnswer table setting s c ≡ refusedWith n s
   unfolding callAnswer
   refused-answer n e d = rw (e, ne-eqb n 0 d)
 
   -- 1, 12 or 14
-  pub refused-first : (n : ℕ) → n ≡ first-number → (n ≡ 0 → ⊥) → refusedWith n s ≡ callAnswer table map limit s c
+  pub refused-first : (n : ℕ) → n ≡ first-number → (n ≡ 0 → ⊥) → refusedWith n s ≡ callAnswer table setting s c
   unfolding matchNumber
   refused-first n e d =
       sym (refused-answer n
       (early-same t-short (not (whole table)) (not (wholeState s)) (isBadRecord (c .bytes) (c .order))
-      (passesContext (decode table) map limit (keptOf s) (recordRead (c .bytes) (c .order))) (λ z. d (e ∙ z))
+      (passesContext (decode table) setting (keptOf s) (recordRead (c .bytes) (c .order))) (λ z. d (e ∙ z))
       ∙ sym e) d)
 
   -- what holds past those checks
   pub record Past : Type 0 where
     pub isWhole : whole table ≡ true
-    pub mapLong : length map ≡ 496
+    pub mapLong : length (setting .keyboard) ≡ 496
     pub stateWhole : wholeState s ≡ true
-    pub notShort : tooShort table map ≡ false
+    pub notShort : tooShort table (setting .keyboard) ≡ false
+
+  past-by : (checks : MatchChecks) → NoneApplies checks → checks .short ≡ t-short → checks .tableBroken ≡ not (whole table)
+      → checks .stateBroken ≡ not (wholeState s) → Past
+  past-by checks p a b d =
+      record {
+        isWhole = not-is (whole table) (sym b ∙ p .tableBroken);
+        mapLong = mapped table (setting .keyboard) (sym a ∙ p .short);
+        stateWhole = not-is (wholeState s) (sym d ∙ p .stateBroken);
+        notShort = sym a ∙ p .short;
+      }
 
   pub past : first-number ≡ 0 → Past
   past e =
-      let p = early-passes t-short (not (whole table)) (not (wholeState s)) e in
-      record {
-        isWhole = not-is (whole table) (p .table);
-        mapLong = mapped table map (p .short);
-        stateWhole = not-is (wholeState s) (p .state);
-        notShort = p .short;
-      }
+      let checks : MatchChecks = earlyChecks t-short (not (whole table)) (not (wholeState s)) in
+      past-by checks (none-applies checks (eq-eqb first-number 0 e)) refl refl refl
+
+  -- where none applies at all
+  pub past-all : matchNumber table setting s c ≡ 0 → Past × (isBadRecord (c .bytes) (c .order) ≡ false)
+  unfolding matchNumber
+  past-all e =
+      let checks : MatchChecks = record {
+        short = t-short;
+        tableBroken = not (whole table);
+        stateBroken = not (wholeState s);
+        recordBad = isBadRecord (c .bytes) (c .order);
+        full = passesContext (decode table) setting (keptOf s) (recordRead (c .bytes) (c .order));
+      } in
+      let p = none-applies checks (eq-eqb (matchOrder checks) 0 e) in
+      (past-by checks p refl refl refl, p .recordBad)
 
   module _ (p : Past) where
     number-is : (bad : Bool) → isBadRecord (c .bytes) (c .order) ≡ bad
-        → matchNumber table map limit s c ≡ matchOrder false false false bad false
+        → matchNumber table setting s c ≡ matchOrder (record { short = false; tableBroken = false; stateBroken = false; recordBad = bad; full = false })
     unfolding matchNumber
     number-is bad e =
         rw (
@@ -130,23 +139,23 @@ module _ (table map : List ℕ) (limit : ℕ) (s : State) (c : MatchCall) where
           p .isWhole,
           p .stateWhole,
           e,
-          never-full map limit (decode table) (table-facts table (p .isWhole) .limit) (keptOf s) (recordRead (c .bytes) (c .order)),
+          never-full (decode table) (table-facts table (p .isWhole) .limit) setting (keptOf s) (recordRead (c .bytes) (c .order)),
         )
 
-    step-number : isBadRecord (c .bytes) (c .order) ≡ false → stepNumber (decode table) map limit (keptOf s) c ≡ 0
+    step-number : isBadRecord (c .bytes) (c .order) ≡ false → stepNumber (decode table) setting (keptOf s) c ≡ 0
     unfolding stepNumber
     step-number e =
         rw (
-          eq-eqb (length map) 496 (p .mapLong),
+          eq-eqb (length (setting .keyboard)) 496 (p .mapLong),
           e,
-          never-full map limit (decode table) (table-facts table (p .isWhole) .limit) (keptOf s) (recordRead (c .bytes) (c .order)),
+          never-full (decode table) (table-facts table (p .isWhole) .limit) setting (keptOf s) (recordRead (c .bytes) (c .order)),
         )
 
     read-bad : isBadRecord (c .bytes) (c .order) ≡ true → recordRead (c .bytes) (c .order) ≡ RecordRead.Refused badRecord
     unfolding recordRead
     read-bad e = rw e
 
-    read-good : isBadRecord (c .bytes) (c .order) ≡ false
+    pub read-good : isBadRecord (c .bytes) (c .order) ≡ false
         → recordRead (c .bytes) (c .order) ≡ RecordRead.Event (eventOf (c .bytes) (c .order) (codeOf (c .bytes)))
     unfolding recordRead
     read-good e = rw e
@@ -154,10 +163,10 @@ module _ (table map : List ℕ) (limit : ℕ) (s : State) (c : MatchCall) where
     -- 13
     pub refused-record : (n : ℕ) → recordRead (c .bytes) (c .order) ≡ RecordRead.Refused n
         → (m : ℕ) → m ≡ recordNumber (recordRead (c .bytes) (c .order))
-        → refusedWith m s ≡ callAnswer table map limit s c
+        → refusedWith m s ≡ callAnswer table setting s c
     refused-record n r m q = go (isBadRecord (c .bytes) (c .order)) refl
       where
-        go : (bad : Bool) → isBadRecord (c .bytes) (c .order) ≡ bad → refusedWith m s ≡ callAnswer table map limit s c
+        go : (bad : Bool) → isBadRecord (c .bytes) (c .order) ≡ bad → refusedWith m s ≡ callAnswer table setting s c
         go true e =
             let k : m ≡ badRecord = q ∙ ap recordNumber (read-bad e) in
             ap (λ (j : ℕ). refusedWith j s) k ∙ sym (refused-answer badRecord (number-is true e) (one≢ 13 (omega arith)))
@@ -176,13 +185,13 @@ module _ (table map : List ℕ) (limit : ℕ) (s : State) (c : MatchCall) where
             absurd (omega arith)
         go false e = refl
 
-    acted : (x : Event) → recordRead (c .bytes) (c .order) ≡ RecordRead.Event x
-        → callAnswer table map limit s c ≡ stepAnswer (act (decode table) map limit (keptOf s) (RecordRead.Event x))
+    pub acted : (x : Event) → recordRead (c .bytes) (c .order) ≡ RecordRead.Event x
+        → callAnswer table setting s c ≡ stepAnswer (act (decode table) setting (keptOf s) (RecordRead.Event x))
     unfolding callAnswer stepped
     acted x r =
         rw (number-is false (accepted x r), step-number (accepted x r), r)
 
-    dropped-answer : _≡_ {A = Answer} (record { matched = Matched.Dropped; state = s }) (stepAnswer (dropEvent (decode table) map limit (keptOf s)))
+    dropped-answer : _≡_ {A = Answer} (record { matched = Matched.Dropped; state = s }) (stepAnswer (dropEvent (decode table) setting (keptOf s)))
     unfolding stepAnswer
     dropped-answer =
         ap (λ (u : State). record { matched = Matched.Dropped; state = u }) (sym (state-kept s (state-facts s (p .stateWhole))))
@@ -190,13 +199,13 @@ module _ (table map : List ℕ) (limit : ℕ) (s : State) (c : MatchCall) where
     -- no production has an event of its type
     pub dropped-event : (x : Event) → recordRead (c .bytes) (c .order) ≡ RecordRead.Event x
         → any (hasType (x .code)) (decode table .productions) ≡ false
-        → _≡_ {A = Answer} (record { matched = Matched.Dropped; state = s }) (callAnswer table map limit s c)
+        → _≡_ {A = Answer} (record { matched = Matched.Dropped; state = s }) (callAnswer table setting s c)
     dropped-event x r q =
         dropped-answer
-        ∙ sym (acted x r ∙ ap (λ (b : Bool). stepAnswer (cond b (hear (decode table) map limit (keptOf s) x) (dropEvent (decode table) map limit (keptOf s)))) q)
+        ∙ sym (acted x r ∙ ap (λ (b : Bool). stepAnswer (cond b (hear (decode table) setting (keptOf s) x) (dropEvent (decode table) setting (keptOf s)))) q)
 
     pub heard-event : (x : Event) → recordRead (c .bytes) (c .order) ≡ RecordRead.Event x
         → any (hasType (x .code)) (decode table .productions) ≡ true
-        → stepAnswer (hear (decode table) map limit (keptOf s) x) ≡ callAnswer table map limit s c
+        → stepAnswer (hear (decode table) setting (keptOf s) x) ≡ callAnswer table setting s c
     heard-event x r q =
-        sym (acted x r ∙ ap (λ (b : Bool). stepAnswer (cond b (hear (decode table) map limit (keptOf s) x) (dropEvent (decode table) map limit (keptOf s)))) q)
+        sym (acted x r ∙ ap (λ (b : Bool). stepAnswer (cond b (hear (decode table) setting (keptOf s) x) (dropEvent (decode table) setting (keptOf s)))) q)

@@ -10,6 +10,7 @@ use lib.ListN.{length, getD, take, drop, replicate, length-append}
 use lib.Seq.{take-suc, drop-append-le, length-take-le, length-slice, slice-empty, getD-take}
 use Rattle.words.specs.Words.{zeros}
 use Rattle.records.specs.Ranges.{EventRanges}
+use Rattle.model.specs.Setting.{Setting}
 use Rattle.model.specs.Tables.{Table}
 use Rattle.model.specs.Selection.{Reading}
 use Rattle.model.specs.Matching.{readingOf}
@@ -58,13 +59,13 @@ module _ (events : List Event) (from : ℕ) where
 
 -- ---- The answer
 
-module _ (t : Table) (map : List ℕ) (limit : ℕ) where
+module _ (t : Table) (setting : Setting) where
   abbrev R : Reading Event
-  R = readingOf t map limit
+  R = readingOf t setting
 
   marked-answer : (found : Passed) (xs : List Event) (m : ℕ)
       → _≡_ {A = Answer}
-      (record { matched = selection t map limit (chosenBy found); state = stateKeeping (marked R (record { events = xs; selected = m }) (chosenBy found)) })
+      (record { matched = selection t setting (chosenBy found); state = stateKeeping (marked R (record { events = xs; selected = m }) (chosenBy found)) })
       (answerIn found xs m)
   unfolding answerIn answerWith stateKeeping stateWith
   marked-answer Passed.No xs m = refl
@@ -73,18 +74,18 @@ module _ (t : Table) (map : List ℕ) (limit : ℕ) where
 
   step-answer : (k : Kept Event) (x : Event) (xs : List Event) (m : ℕ) (found : Passed)
       → moved R k x ≡ record { events = xs; selected = m } → chosenIn R xs ≡ chosenBy found
-      → stepAnswer (hear t map limit k x) ≡ answerIn found xs m
+      → stepAnswer (hear t setting k x) ≡ answerIn found xs m
   unfolding stepAnswer kept choice
   step-answer k x xs m found e q =
       let c : chosenIn R (moved R k x .events) ≡ chosenBy found = ap (λ (y : Kept Event). chosenIn R (y .events)) e ∙ q in
       ap₂ (λ (y : Kept Event) (o : Option ℕ). answer y o) e c ∙ marked-answer found xs m
     where
       answer : Kept Event → Option ℕ → Answer
-      answer y o = record { matched = selection t map limit o; state = stateKeeping (marked R y o) }
+      answer y o = record { matched = selection t setting o; state = stateKeeping (marked R y o) }
 
-  chosen-in : (xs : List Event) → 0 < length xs → chosenIn R xs ≡ chosenBy (passed t map limit xs)
+  chosen-in : (xs : List Event) → 0 < length xs → chosenIn R xs ≡ chosenBy (passed t setting xs)
   chosen-in [] h = absurd (omega arith)
-  chosen-in (x ∷ xs) h = sym (passed-chosen t map limit (x ∷ xs))
+  chosen-in (x ∷ xs) h = sym (passed-chosen t setting (x ∷ xs))
 
   moved-yes : (k : Kept Event) (x : Event) → R .prefix (grown R k x) ≡ true
       → moved R k x ≡ record { events = grown R k x; selected = k .selected }
@@ -97,36 +98,36 @@ module _ (t : Table) (map : List ℕ) (limit : ℕ) where
   moved-no k x p = rw p
 
   -- the context goes on
-  pub goes-on : (k : Kept Event) (x : Event) (found : Passed) → found ≡ passed t map limit (grown R k x) → someReads found ≡ true
-      → stepAnswer (hear t map limit k x) ≡ answerIn found (grown R k x) (k .selected)
+  pub goes-on : (k : Kept Event) (x : Event) (found : Passed) → found ≡ passed t setting (grown R k x) → someReads found ≡ true
+      → stepAnswer (hear t setting k x) ≡ answerIn found (grown R k x) (k .selected)
   goes-on k x found e q =
-      let p : R .prefix (grown R k x) ≡ true = sym (passed-prefix t map limit (grown R k x)) ∙ ap someReads (sym e) ∙ q in
+      let p : R .prefix (grown R k x) ≡ true = sym (passed-prefix t setting (grown R k x)) ∙ ap someReads (sym e) ∙ q in
       let n : 0 < length (grown R k x) = omega (arith, length-append (k .events) (x ∷ [])) in
       step-answer k x (grown R k x) (k .selected) found (moved-yes k x p) (chosen-in (grown R k x) n ∙ ap chosenBy (sym e))
 
   -- it does not
-  pub moves-on : (k : Kept Event) (x : Event) (found : Passed) → found ≡ passed t map limit (grown R k x) → found ≡ Passed.No
-      → stepAnswer (hear t map limit k x) ≡ restarted t map limit (grown R k x) (k .selected)
+  pub moves-on : (k : Kept Event) (x : Event) (found : Passed) → found ≡ passed t setting (grown R k x) → found ≡ Passed.No
+      → stepAnswer (hear t setting k x) ≡ restarted t setting (grown R k x) (k .selected)
   unfolding restarted
   moves-on k x found e q =
-      let p : R .prefix (grown R k x) ≡ false = sym (passed-prefix t map limit (grown R k x)) ∙ ap someReads (sym e ∙ q) in
+      let p : R .prefix (grown R k x) ≡ false = sym (passed-prefix t setting (grown R k x)) ∙ ap someReads (sym e ∙ q) in
       let ys = longestEnd R (drop (max 1 (k .selected)) (grown R k x)) in
-      step-answer k x ys 0 (passedIn t map limit ys) (moved-no k x p) (sym (passed-in t map limit ys))
+      step-answer k x ys 0 (passedIn t setting ys) (moved-no k x p) (sym (passed-in t setting ys))
 
   -- what the code makes of a new start
   pub restart-is : (events : List Event) (to selected used at : ℕ) (found : Passed) (bytes : List ℕ)
       → length events ≡ 25 → to ≤ 25 → at ≤ to → used ≡ max 1 selected
       → drop at (take to events) ≡ longestEnd R (drop used (take to events))
-      → found ≡ passedIn t map limit (drop at (take to events))
+      → found ≡ passedIn t setting (drop at (take to events))
       → bytes ≡ inSlots (drop at (take to events))
-      → answerWith found (to - at) 0 bytes ≡ restarted t map limit (take to events) selected
+      → answerWith found (to - at) 0 bytes ≡ restarted t setting (take to events) selected
   unfolding restarted answerIn
   restart-is events to selected used at found bytes long room h u d e m =
       let ys = drop at (take to events) in
       let g : ys ≡ longestEnd R (drop (max 1 selected) (take to events))
       = d ∙ ap (λ (q : ℕ). longestEnd R (drop q (take to events))) u in
       let n : to - at ≡ length ys = sym (length-slice at to events (omega arith)) in
-      rw (n, e, m) (ap (λ (zs : List Event). answerIn (passedIn t map limit zs) zs 0) g)
+      rw (n, e, m) (ap (λ (zs : List Event). answerIn (passedIn t setting zs) zs 0) g)
 
 -- ---- A whole state with one event more
 
@@ -185,24 +186,24 @@ module _ (s : State) (f : StateFacts s) (x : Event) where
   unfolding answerIn
   answer-more found = rw (more-slots, more-length)
 
-module _ (t : Table) (map : List ℕ) (limit : ℕ) (s : State) (f : StateFacts s) (x : Event) (bytes : List ℕ) (g : bytes ≡ putSlot (s .events) (s .kept) x) where
+module _ (t : Table) (setting : Setting) (s : State) (f : StateFacts s) (x : Event) (bytes : List ℕ) (g : bytes ≡ putSlot (s .events) (s .kept) x) where
   abbrev taken : List Event
   taken = take (s .kept + 1) (slotsOf bytes)
 
   taken-is : taken ≡ more s f x
   taken-is = ap (λ (l : List ℕ). take (s .kept + 1) (slotsOf l)) g ∙ more-taken s f x
 
-  pub heard-no : (found : Passed) → found ≡ passed t map limit taken → found ≡ Passed.No
-      → restarted t map limit taken (s .selected) ≡ stepAnswer (hear t map limit (keptOf s) x)
+  pub heard-no : (found : Passed) → found ≡ passed t setting taken → found ≡ Passed.No
+      → restarted t setting taken (s .selected) ≡ stepAnswer (hear t setting (keptOf s) x)
   unfolding keptOf
   heard-no found e q =
-      ap (λ (ys : List Event). restarted t map limit ys (s .selected)) taken-is
-      ∙ sym (moves-on t map limit (keptOf s) x found (e ∙ ap (passed t map limit) taken-is) q)
+      ap (λ (ys : List Event). restarted t setting ys (s .selected)) taken-is
+      ∙ sym (moves-on t setting (keptOf s) x found (e ∙ ap (passed t setting) taken-is) q)
 
-  pub heard-yes : (found : Passed) → found ≡ passed t map limit taken → someReads found ≡ true
-      → answerWith found (s .kept + 1) (s .selected) bytes ≡ stepAnswer (hear t map limit (keptOf s) x)
+  pub heard-yes : (found : Passed) → found ≡ passed t setting taken → someReads found ≡ true
+      → answerWith found (s .kept + 1) (s .selected) bytes ≡ stepAnswer (hear t setting (keptOf s) x)
   unfolding keptOf
   heard-yes found e q =
       ap (answerWith found (s .kept + 1) (s .selected)) g
       ∙ answer-more s f x found
-      ∙ sym (goes-on t map limit (keptOf s) x found (e ∙ ap (passed t map limit) taken-is) q)
+      ∙ sym (goes-on t setting (keptOf s) x found (e ∙ ap (passed t setting) taken-is) q)

@@ -2,8 +2,8 @@
 use Prim.Native.Nat.{ℕ, zero, suc, _+_, _<_}
 use native.Mathlib.Omega.{arith}
 use borrow.Author.Tests.{eq-eqb}
-use mathlib.Core.Path.{_≡_, refl, sym}
-use mathlib.Core.Bool.{Bool, true, false, cond, not, false≢true}
+use mathlib.Core.Path.{_≡_, refl}
+use mathlib.Core.Bool.{Bool, true, false, cond}
 use mathlib.Core.Option.{Option, none, some}
 use mathlib.Core.List.{List, [], _∷_, _++_}
 use lib.Dec.{eqb}
@@ -11,21 +11,21 @@ use lib.ListN.{length, drop, length-drop}
 use lib.Seq.{getD-drop}
 use Rattle.records.specs.Ranges.{EventRanges}
 use Rattle.records.proofs.Ranges.{read-ranges}
+use Rattle.model.specs.Setting.{Setting}
 use Rattle.model.specs.Tables.{Table}
-use Rattle.model.specs.Numbers.{matchOrder}
-use Rattle.model.specs.Records.{isBadRecord, recordRead}
+use Rattle.model.specs.Records.{recordRead}
 use Rattle.model.specs.Selection.{Reading}
 use Rattle.model.specs.Matching.{readingOf}
 use Rattle.model.specs.Demand.{MatchCall}
 use Rattle.model.specs.declared.events.Event.{Event}
 use Rattle.model.specs.declared.answers.RecordRead.{RecordRead}
-use Rattle.machine.specs.Kept.{Kept, longestEnd, grown, usedUp, unused, moved, choice, marked, kept, passesContext, stepNumber, act, stepped}
+use Rattle.machine.specs.Kept.{Kept, longestEnd, grown, usedUp, unused, moved, choice, marked, kept, stepNumber, act, stepped}
 use Rattle.machine.proofs.Bounded.{stepped-bounded}
 use Rattle.tables.specs.Reading.{decode}
-use Rattle.tables.specs.Whole.{whole}
 use Rattle.states.specs.declared.State.{State}
 use Rattle.states.specs.State.{zeroEvent, keptOf, stateKeeping, wholeState}
-use Rattle.matcher.specs.Match.{stepAnswer, tooShort, matchNumber, callAnswer}
+use Rattle.matcher.specs.Match.{stepAnswer, matchNumber, callAnswer}
+use Rattle.matcher.proofs.MatchLaws.{past-all}
 use Rattle.states.proofs.StateLaws.{InRanges, ranges-tail, ranges-more, state-facts, kept-ranges, kept-bounded, bounded-whole}
 
 -- ---- Events in range
@@ -64,50 +64,36 @@ module _ (R : Reading Event) where
 
 -- ---- One call
 
-module _ (t : Table) (map : List ℕ) (limit : ℕ) (k : Kept Event) (r : InRanges (k .events)) where
+module _ (t : Table) (setting : Setting) (k : Kept Event) (r : InRanges (k .events)) where
   ranges-act : (bytes : List ℕ) (order : ℕ) (read : RecordRead) → recordRead bytes order ≡ read
-      → InRanges (act t map limit k read .next .events)
+      → InRanges (act t setting k read .next .events)
   ranges-act bytes order (RecordRead.Refused n) e = r
-  ranges-act bytes order (RecordRead.Event x) e = go (readingOf t map limit .known x) refl
+  ranges-act bytes order (RecordRead.Event x) e = go (readingOf t setting .known x) refl
     where
-      go : (b : Bool) → readingOf t map limit .known x ≡ b → InRanges (act t map limit k (RecordRead.Event x) .next .events)
-      go true q = rw q (ranges-kept (readingOf t map limit) k x r (read-ranges bytes order x e))
+      go : (b : Bool) → readingOf t setting .known x ≡ b → InRanges (act t setting k (RecordRead.Event x) .next .events)
+      go true q = rw q (ranges-kept (readingOf t setting) k x r (read-ranges bytes order x e))
       go false q = rw q r
 
-  pub stepped-ranges : (c : MatchCall) → InRanges (stepped t map limit k c .next .events)
+  pub stepped-ranges : (c : MatchCall) → InRanges (stepped t setting k c .next .events)
   unfolding stepped
-  stepped-ranges c = go (eqb (stepNumber t map limit k c) 0) refl
+  stepped-ranges c = go (eqb (stepNumber t setting k c) 0) refl
     where
-      go : (b : Bool) → eqb (stepNumber t map limit k c) 0 ≡ b → InRanges (stepped t map limit k c .next .events)
+      go : (b : Bool) → eqb (stepNumber t setting k c) 0 ≡ b → InRanges (stepped t setting k c .next .events)
       go true q = rw q (ranges-act (c .bytes) (c .order) (recordRead (c .bytes) (c .order)) refl)
       go false q = rw q r
 
 -- the state after a step from a whole state
-pub step-whole : (t : Table) (map : List ℕ) (limit : ℕ) (s : State) (c : MatchCall) → wholeState s ≡ true
-    → wholeState (stateKeeping (stepped t map limit (keptOf s) c .next)) ≡ true
-step-whole t map limit s c w =
+pub step-whole : (t : Table) (setting : Setting) (s : State) (c : MatchCall) → wholeState s ≡ true
+    → wholeState (stateKeeping (stepped t setting (keptOf s) c .next)) ≡ true
+step-whole t setting s c w =
     let f = state-facts s w in
-    bounded-whole (stepped t map limit (keptOf s) c .next)
-    (stepped-bounded t map limit (keptOf s) (kept-bounded s f) c)
-    (stepped-ranges t map limit (keptOf s) (kept-ranges s f) c)
+    bounded-whole (stepped t setting (keptOf s) c .next)
+    (stepped-bounded t setting (keptOf s) (kept-bounded s f) c)
+    (stepped-ranges t setting (keptOf s) (kept-ranges s f) c)
 
-state-passes : (a b c d e : Bool) → eqb (matchOrder a b c d e) 0 ≡ true → c ≡ false
-state-passes true b c d e q = absurd (false≢true q)
-state-passes false true c d e q = absurd (false≢true q)
-state-passes false false true d e q = absurd (false≢true q)
-state-passes false false false d e q = refl
-
-not-is : (b : Bool) → not b ≡ false → b ≡ true
-not-is true q = refl
-not-is false q = absurd (false≢true (sym q))
-
-pub accepted-whole : (table map : List ℕ) (limit : ℕ) (s : State) (c : MatchCall)
-    → matchNumber table map limit s c ≡ 0 → wholeState (callAnswer table map limit s c .state) ≡ true
-unfolding callAnswer matchNumber stepAnswer
-accepted-whole table map limit s c e =
-    let q : eqb (matchNumber table map limit s c) 0 ≡ true = eq-eqb (matchNumber table map limit s c) 0 e in
-    let w : wholeState s ≡ true
-    = not-is (wholeState s)
-    (state-passes (tooShort table map) (not (whole table)) (not (wholeState s)) (isBadRecord (c .bytes) (c .order))
-    (passesContext (decode table) map limit (keptOf s) (recordRead (c .bytes) (c .order))) q) in
-    rw q (step-whole (decode table) map limit s c w)
+pub accepted-whole : (table : List ℕ) (setting : Setting) (s : State) (c : MatchCall)
+    → matchNumber table setting s c ≡ 0 → wholeState (callAnswer table setting s c .state) ≡ true
+unfolding callAnswer stepAnswer
+accepted-whole table setting s c e =
+    rw (eq-eqb (matchNumber table setting s c) 0 e)
+    (step-whole (decode table) setting s c (past-all table setting s c e .0 .stateWhole))

@@ -1,21 +1,70 @@
 -- The matcher's answer, as a definition of its input alone.
 use Prim.Native.Nat.{ℕ}
-use mathlib.Core.Bool.{Bool, cond, not, _||_}
+use mathlib.Core.Bool.{Bool, false, cond, not, _||_}
 use mathlib.Core.List.{List}
+use mathlib.Core.Option.{Option, none}
 use lib.Dec.{eqb, ltb}
 use lib.ListN.{length}
 use Rattle.model.specs.Limits.{mapLength}
-use Rattle.model.specs.Numbers.{matchOrder}
+use Rattle.model.specs.Numbers.{MatchChecks, matchOrder}
+use Rattle.model.specs.Setting.{Setting}
+use Rattle.model.specs.Tables.{Table}
 use Rattle.model.specs.Records.{isBadRecord, recordRead}
+use Rattle.model.specs.Matching.{readingOf}
 use Rattle.model.specs.Demand.{MatchCall}
+use Rattle.model.specs.declared.events.Event.{Event}
+use Rattle.model.specs.declared.answers.RecordRead.{RecordRead}
 use Rattle.model.specs.declared.answers.Matched.{Matched}
-use Rattle.machine.specs.Kept.{Step, passesContext, stepped}
+use Rattle.machine.specs.Kept.{Kept, Step, choice, passesContext, stepped}
 use Rattle.tables.specs.Layout.{tableLength}
 use Rattle.tables.specs.Reading.{decode}
 use Rattle.tables.specs.Whole.{whole}
 use Rattle.states.specs.declared.State.{State}
-use Rattle.matcher.specs.declared.Answer.{Answer}
 use Rattle.states.specs.State.{keptOf, stateKeeping, wholeState}
+use Rattle.matcher.specs.declared.Answer.{Answer}
+
+abbrev pub matchCall : (bytes : List ℕ) → (order : ℕ) → MatchCall
+matchCall bytes order = record { bytes = bytes; order = order }
+
+-- ---- The number
+
+-- number 1: "a lent buffer is too short (keyboard map: not 496 numbers)"
+unfoldable pub tooShort : (table map : List ℕ) → Bool
+tooShort table map = ltb (length table) tableLength || not (eqb (length map) mapLength)
+
+-- the checks that come before the record is looked at
+abbrev pub earlyChecks : (short tableBroken stateBroken : Bool) → MatchChecks
+earlyChecks short tableBroken stateBroken =
+    record { short = short; tableBroken = tableBroken; stateBroken = stateBroken; recordBad = false; full = false }
+
+-- "Matcher: 1, 12, 14, 13, 15."
+unfoldable pub matchNumber : (table : List ℕ) → Setting → State → MatchCall → ℕ
+matchNumber table setting s c =
+    matchOrder (
+    record {
+      short = tooShort table (setting .keyboard);
+      tableBroken = not (whole table);
+      stateBroken = not (wholeState s);
+      recordBad = isBadRecord (c .bytes) (c .order);
+      full = passesContext (decode table) setting (keptOf s) (recordRead (c .bytes) (c .order));
+    }
+    )
+
+-- ---- The selection
+
+-- what rule 4 selects at an event that is heard
+abbrev pub readSelection : Table → Setting → Kept Event → RecordRead → Option ℕ
+readSelection t setting k (RecordRead.Event x) = cond (readingOf t setting .known x) (choice (readingOf t setting) k x) none
+readSelection t setting k (RecordRead.Refused n) = none
+
+-- and at a call that is accepted
+unfoldable pub matchSelection : (table : List ℕ) → Setting → State → MatchCall → Option ℕ
+matchSelection table setting s c =
+    cond (eqb (matchNumber table setting s c) 0)
+    (readSelection (decode table) setting (keptOf s) (recordRead (c .bytes) (c .order)))
+    none
+
+-- ---- The whole answer: the case, and the state for the next call
 
 -- the answer with the state that stands for what is kept
 unfoldable pub stepAnswer : Step → Answer
@@ -25,22 +74,11 @@ stepAnswer s = record { matched = s .answer; state = stateKeeping (s .next) }
 abbrev pub refusedWith : ℕ → State → Answer
 refusedWith n s = record { matched = Matched.Refused n; state = s }
 
--- number 1: "a lent buffer is too short (keyboard map: not 496 numbers)"
-unfoldable pub tooShort : (table map : List ℕ) → Bool
-tooShort table map = ltb (length table) tableLength || not (eqb (length map) mapLength)
+unfoldable pub callAnswer : (table : List ℕ) → Setting → State → MatchCall → Answer
+callAnswer table setting s c =
+    cond (eqb (matchNumber table setting s c) 0)
+    (stepAnswer (stepped (decode table) setting (keptOf s) c))
+    (refusedWith (matchNumber table setting s c) s)
 
--- "Matcher: 1, 12, 14, 13, 15."
-unfoldable pub matchNumber : (table map : List ℕ) → (limit : ℕ) → State → MatchCall → ℕ
-matchNumber table map limit s c =
-    matchOrder (tooShort table map) (not (whole table)) (not (wholeState s)) (isBadRecord (c .bytes) (c .order))
-    (passesContext (decode table) map limit (keptOf s) (recordRead (c .bytes) (c .order)))
-
--- the answer to a call
-unfoldable pub callAnswer : (table map : List ℕ) → (limit : ℕ) → State → MatchCall → Answer
-callAnswer table map limit s c =
-    cond (eqb (matchNumber table map limit s c) 0)
-    (stepAnswer (stepped (decode table) map limit (keptOf s) c))
-    (refusedWith (matchNumber table map limit s c) s)
-
-abbrev pub matchAnswer : (table map : List ℕ) → (limit : ℕ) → State → (bytes : List ℕ) → (order : ℕ) → Answer
-matchAnswer table map limit s bytes order = callAnswer table map limit s (record { bytes = bytes; order = order })
+abbrev pub matchAnswer : (table : List ℕ) → Setting → State → (bytes : List ℕ) → (order : ℕ) → Answer
+matchAnswer table setting s bytes order = callAnswer table setting s (matchCall bytes order)

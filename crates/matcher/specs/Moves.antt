@@ -4,6 +4,7 @@ use mathlib.Core.Bool.{not}
 use mathlib.Core.List.{List}
 use lib.Dec.{eqb}
 use lib.ListN.{length, drop}
+use Rattle.model.specs.Setting.{Setting}
 use Rattle.model.specs.Tables.{Table}
 use Rattle.model.specs.Matching.{readingOf}
 use Rattle.model.specs.declared.events.Event.{Event}
@@ -37,9 +38,9 @@ unfoldable pub answerIn : Passed → List Event → ℕ → Answer
 answerIn found xs selected = answerWith found (length xs) selected (inSlots xs)
 
 -- the context moves on to the longest end past what is used up that reads as a prefix
-unfoldable pub restarted : Table → List ℕ → ℕ → List Event → ℕ → Answer
-restarted t map limit xs selected =
+unfoldable pub restarted : Table → Setting → List Event → ℕ → Answer
+restarted t setting xs selected =
     answerIn
-    (passedIn t map limit (longestEnd (readingOf t map limit) (drop (max 1 selected) xs)))
-    (longestEnd (readingOf t map limit) (drop (max 1 selected) xs))
+    (passedIn t setting (longestEnd (readingOf t setting) (drop (max 1 selected) xs)))
+    (longestEnd (readingOf t setting) (drop (max 1 selected) xs))
     0

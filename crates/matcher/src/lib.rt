@@ -1,11 +1,11 @@
 // The matcher: at each record that is heard, the production that it completes, and the state for the next.
 ghost use mathlib.Core.Path.{_≡_};
-ghost use mathlib.Core.Bool.{false, not};
-ghost use Rattle.model.specs.Numbers.{matchOrder, recordNumber};
+ghost use mathlib.Core.Bool.{not};
+ghost use Rattle.model.specs.Numbers.{matchOrder, recordNumber, matchedNumber, matchedSelection};
 ghost use Rattle.tables.specs.Whole.{whole};
-ghost use Rattle.keyboard.specs.Maps.{mapNumbers};
+ghost use Rattle.keyboard.specs.Maps.{mapNumbers, lentSetting};
 ghost use Rattle.states.specs.State.{wholeState};
-ghost use Rattle.matcher.specs.Match.{tooShort, refusedWith, matchAnswer};
+ghost use Rattle.matcher.specs.Match.{tooShort, earlyChecks, refusedWith, matchCall, matchNumber, matchSelection, matchAnswer};
 
 mod moves;
 
@@ -30,22 +30,35 @@ const TABLE_NOT_WHOLE: u8 = 12;
 const STATE_NOT_WHOLE: u8 = 14;
 
 // The first of them that applies, 0 where none does.
-fn refusal(table: &[u8], map: &[u8], state: State) -> u8
-    ensures { λ r. ⌜ r ≡ matchOrder (tooShort (now (table .entry)) (mapNumbers (now (map .entry)))) (not (whole (now (table .entry)))) (not (wholeState state)) false false ⌝ }
+fn first_of(short: bool, table_broken: bool, state_broken: bool) -> u8
+    ensures { λ r. ⌜ r ≡ matchOrder (earlyChecks short «table_broken» «state_broken») ⌝ }
 {
-    if table.len() < tables::TABLE_LENGTH {
+    if short {
         return SHORT_BUFFER;
     }
-    if map.len() != MAP_BYTES {
-        return SHORT_BUFFER;
-    }
-    if !tables::check::whole(table) {
+    if table_broken {
         return TABLE_NOT_WHOLE;
     }
-    if !states::state_whole(state) {
+    if state_broken {
         return STATE_NOT_WHOLE;
     }
     0
+}
+
+fn too_short(table: &[u8], map: &[u8]) -> bool
+    ensures { λ r. ⌜ r ≡ tooShort (now (table .entry)) (mapNumbers (now (map .entry))) ⌝ }
+{
+    (table.len() < tables::TABLE_LENGTH) | (map.len() != MAP_BYTES)
+}
+
+fn refusal(table: &[u8], map: &[u8], state: State) -> u8
+    ensures { λ r. ⌜ r ≡ matchOrder (earlyChecks (tooShort (now (table .entry)) (mapNumbers (now (map .entry)))) (not (whole (now (table .entry)))) (not (wholeState state))) ⌝ }
+{
+    first_of(
+        too_short(table, map),
+        !tables::check::whole(table),
+        !states::state_whole(state),
+    )
 }
 
 // A refused call keeps the state.
@@ -68,7 +81,8 @@ fn number_of(read: RecordRead) -> u8
     }
 }
 
-// One call. 15 is never given: no stretch of more than 24 events reads as a prefix of a whole table.
+// One call: the whole answer, and by the enum's cases its number and its selection. 15 is never given: no stretch of more than
+// 24 events reads as a prefix of a whole table.
 pub fn match_event(
     table: &[u8],
     map: &[u8],
@@ -77,7 +91,9 @@ pub fn match_event(
     record: &[u8],
     order: u8,
 ) -> Answer
-    ensures { λ r. ⌜ r ≡ matchAnswer (now (table .entry)) (mapNumbers (now (map .entry))) limit state (now («record» .entry)) order ⌝ }
+    ensures answer { λ r. ⌜ r ≡ matchAnswer (now (table .entry)) (lentSetting (now (map .entry)) limit) state (now («record» .entry)) order ⌝ }
+    ensures number { λ r. ⌜ matchedNumber (r .matched) ≡ matchNumber (now (table .entry)) (lentSetting (now (map .entry)) limit) state (matchCall (now («record» .entry)) order) ⌝ }
+    ensures selection { λ r. ⌜ matchedSelection (r .matched) ≡ matchSelection (now (table .entry)) (lentSetting (now (map .entry)) limit) state (matchCall (now («record» .entry)) order) ⌝ }
 {
     let number = refusal(table, map, state);
     if number != 0 {

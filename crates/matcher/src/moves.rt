@@ -8,7 +8,7 @@ ghost use Rattle.machine.specs.Kept.{hear};
 ghost use Rattle.tables.specs.Reading.{decode};
 ghost use Rattle.tables.specs.Whole.{whole};
 ghost use Rattle.states.specs.State.{slotsOf, inSlots, wholeState, keptOf};
-ghost use Rattle.keyboard.specs.Maps.{mapNumbers};
+ghost use Rattle.keyboard.specs.Maps.{mapNumbers, lentSetting};
 ghost use Rattle.follow.specs.Follow.{WalkReady};
 ghost use Rattle.matcher.specs.Moves.{answerWith, restarted};
 ghost use Rattle.matcher.specs.Match.{stepAnswer};
@@ -86,7 +86,7 @@ fn restart(
     to: usize,
 ) -> Answer
     requires { ⌜ WalkReady (now table) (mapNumbers (now map)) (now events) to × ((1 ≤ to) × (selected ≤ to)) ⌝ }
-    ensures { λ r. ⌜ r ≡ restarted (decode (now (table .entry))) (mapNumbers (now (map .entry))) limit (take to (slotsOf (now (events .entry)))) selected ⌝ }
+    ensures { λ r. ⌜ r ≡ restarted (decode (now (table .entry))) (lentSetting (now (map .entry)) limit) (take to (slotsOf (now (events .entry)))) selected ⌝ }
 {
     let start = walk::first_start(table, map, limit, events, used_up(selected), to);
     let at = start.at;
@@ -98,7 +98,7 @@ fn restart(
 // An event that is heard.
 pub fn heard(table: &[u8], map: &[u8], limit: u32, state: State, x: Event) -> Answer
     requires { ⌜ ((whole (now table) ≡ true) × (length (mapNumbers (now map)) ≡ 496)) × ((wholeState state ≡ true) × EventRanges x) ⌝ }
-    ensures { λ r. ⌜ r ≡ stepAnswer (hear (decode (now (table .entry))) (mapNumbers (now (map .entry))) limit (keptOf state) x) ⌝ }
+    ensures { λ r. ⌜ r ≡ stepAnswer (hear (decode (now (table .entry))) (lentSetting (now (map .entry)) limit) (keptOf state) x) ⌝ }
 {
     let kept = state.kept;
     let selected = state.selected;

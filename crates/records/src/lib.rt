@@ -2,7 +2,9 @@
 ghost use mathlib.Core.Path.{_≡_};
 ghost use Prim.Native.Nat.{_+_, _*_, _<_};
 ghost use lib.ListN.{length};
-ghost use Rattle.model.specs.Records.{timeOf, stateOf, eventOf, isBadRecord, recordRead};
+ghost use Rattle.model.specs.Numbers.{recordNumber, recordEvent};
+ghost use Rattle.records.specs.Read.{readNumber, readEvent};
+ghost use Rattle.model.specs.Records.{codeOf, timeOf, stateOf, eventOf, isBadRecord, recordRead};
 use model::answers::RecordRead;
 use model::events::Event;
 
@@ -103,6 +105,14 @@ fn event_of(bytes: &[u8], order: u8, code: u8) -> Event
     }
 }
 
+// The code: byte 0 without its top bit.
+fn code_of(bytes: &[u8]) -> u8
+    requires { ⌜ length (now bytes) ≡ 32 ⌝ }
+    ensures { λ r. ⌜ r ≡ codeOf (now (bytes .entry)) ⌝ }
+{
+    bytes[0] % 128
+}
+
 // Whether a record is refused: its length, the byte order, its code, or a key event's keycode.
 fn is_bad(bytes: &[u8], order: u8) -> bool
     ensures { λ r. ⌜ r ≡ isBadRecord (now (bytes .entry)) order ⌝ }
@@ -110,7 +120,7 @@ fn is_bad(bytes: &[u8], order: u8) -> bool
     if bytes.len() != RECORD_LENGTH {
         return true;
     }
-    let code = bytes[0] % 128;
+    let code = code_of(bytes);
     let keycode = bytes[1];
     let good_order = (order == b'l') | (order == b'B');
     let good_code = (2 <= code) & (code <= 34);
@@ -118,12 +128,15 @@ fn is_bad(bytes: &[u8], order: u8) -> bool
     !good_order | !good_code | bad_keycode
 }
 
+// The answer, and by the enum's cases its number and its event.
 pub fn read_record(bytes: &[u8], order: u8) -> RecordRead
-    ensures { λ r. ⌜ r ≡ recordRead (now (bytes .entry)) order ⌝ }
+    ensures answer { λ r. ⌜ r ≡ recordRead (now (bytes .entry)) order ⌝ }
+    ensures number { λ r. ⌜ recordNumber r ≡ readNumber (now (bytes .entry)) order ⌝ }
+    ensures event { λ r. ⌜ recordEvent r ≡ readEvent (now (bytes .entry)) order ⌝ }
 {
     if is_bad(bytes, order) {
         return RecordRead::Refused(BAD_RECORD);
     }
-    let code = bytes[0] % 128;
+    let code = code_of(bytes);
     RecordRead::Event(event_of(bytes, order, code))
 }

@@ -8,6 +8,7 @@ use lib.Seq.{sets}
 use Rattle.words.specs.Words.{zeros}
 use Rattle.words.specs.Runs.{run, every}
 use Rattle.keyboard.specs.Maps.{numberFrom}
+use Rattle.model.specs.Limits.{textLimit, productionLimit, sequenceLimit, eventLimit, callsOfProductionLimit, callLimit, parametersOfCallLimit, parameterLimit}
 use Rattle.model.specs.declared.events.Event.{Event}
 use Rattle.machine.specs.Kept.{Kept, contextLimit}
 use Rattle.states.specs.declared.State.{State}
@@ -76,6 +77,12 @@ stateKeeping k = stateWith (k .events) (k .selected)
 abbrev pub freshState : State
 freshState = stateWith [] 0
 
+-- "has the table limits as its own constants": these, in 01's order, and how many events a context keeps
+abbrev pub stateLimits : List ℕ
+stateLimits =
+    textLimit ∷ productionLimit ∷ sequenceLimit ∷ eventLimit ∷ callsOfProductionLimit ∷ callLimit
+    ∷ parametersOfCallLimit ∷ parameterLimit ∷ contextLimit ∷ []
+
 -- ---- Document 01, number 14: "matcher state not whole"
 
 -- an event as a record is read to it: code 2..34, state of 13 bits, a key's keycode from 8 on
@@ -103,7 +110,8 @@ unfoldable pub marksWhole : (kept selected : ℕ) (isOpen : Bool) → Bool
 marksWhole kept selected isOpen = leb kept contextLimit && leb selected kept && ((isOpen && not (eqb kept 0)) || (not isOpen && eqb kept 0))
 
 -- at most 24 events, the mark within them, open exactly where there is one; every slot as it must be. Every value of the
--- type has 200 bytes.
+-- type has 200 bytes. A test of ranges: states that no call leaves pass it too, such as one whose events read as a prefix of
+-- no production.
 unfoldable pub wholeState : State → Bool
 wholeState s =
     eqb (length (s .events)) slotBytes

@@ -2,7 +2,7 @@
 ghost use mathlib.Core.Path.{_≡_};
 ghost use Prim.Native.Nat.{_+_, _*_, _-_, _≤_};
 ghost use lib.ListN.{length};
-ghost use Rattle.states.specs.State.{eventWhole, usedWhole, byteZero, slotsWhole, marksWhole, wholeState, freshState};
+ghost use Rattle.states.specs.State.{eventWhole, usedWhole, byteZero, slotsWhole, marksWhole, wholeState, freshState, stateLimits};
 ghost use Rattle.words.specs.Runs.{every};
 use model::events::Event;
 
@@ -38,6 +38,23 @@ impl State {
     pub const PARAMETERS: usize = 256;
 
     pub const CONTEXT_EVENTS: usize = 24;
+
+    // These constants in this order: the contract says of each which limit it is.
+    pub fn limits() -> [usize; 9]
+        ensures { λ r. ⌜ r ≡ stateLimits ⌝ }
+    {
+        [
+            State::TEXT_BYTES,
+            State::PRODUCTIONS,
+            State::PRODUCTION_EVENTS,
+            State::EVENTS,
+            State::PRODUCTION_CALLS,
+            State::CALLS,
+            State::CALL_PARAMETERS,
+            State::PARAMETERS,
+            State::CONTEXT_EVENTS,
+        ]
+    }
 
     // No events: all zero.
     pub fn fresh() -> State
@@ -102,7 +119,7 @@ fn marks_whole(kept: usize, selected: usize, open: bool) -> bool
     (kept <= State::CONTEXT_EVENTS) & (selected <= kept) & ((open & !empty) | (!open & empty))
 }
 
-// Whether a state is one that a call leaves.
+// Whether every part of a state is in its range. Every state that a call leaves is whole, and so are some that none leaves.
 pub fn state_whole(s: State) -> bool
     ensures { λ r. ⌜ r ≡ wholeState s ⌝ }
 {

@@ -13,6 +13,7 @@ use lib.Seq.{slice-cons, slice-empty}
 use Rattle.words.specs.Words.{wordAt}
 use Rattle.words.specs.Runs.{run, total}
 use Rattle.words.proofs.RunLaws.{total-more, total-add, total-same, total-part}
+use Rattle.model.specs.Setting.{Setting}
 use Rattle.model.specs.Lists.{any, earliest}
 use Rattle.model.specs.Tables.{Production, Table}
 use Rattle.model.specs.Counts.{Element, expanded, sequence}
@@ -43,18 +44,18 @@ completes Followed.No = false
 completes Followed.Prefix = false
 completes Followed.Whole = true
 
-module _ (map : List ℕ) (limit : ℕ) where
+module _ (setting : Setting) where
   walked-reads : (two one : Option Event) (els : List Element) (xs : List Event)
-      → reads (walked map limit two one els xs) ≡ follows map limit two one els xs
+      → reads (walked setting two one els xs) ≡ follows setting two one els xs
   unfolding walked follows
   walked-reads two one [] [] = refl
   walked-reads two one (el ∷ els) [] = refl
   walked-reads two one [] (x ∷ xs) = refl
-  walked-reads two one (el ∷ els) (x ∷ xs) = go (fits map limit two el x) refl (walked-reads one (some x) els xs)
+  walked-reads two one (el ∷ els) (x ∷ xs) = go (fits setting two el x) refl (walked-reads one (some x) els xs)
     where
-      go : (b : Bool) → fits map limit two el x ≡ b
-          → reads (walked map limit one (some x) els xs) ≡ follows map limit one (some x) els xs
-          → reads (cond b (walked map limit one (some x) els xs) Followed.No) ≡ b && follows map limit one (some x) els xs
+      go : (b : Bool) → fits setting two el x ≡ b
+          → reads (walked setting one (some x) els xs) ≡ follows setting one (some x) els xs
+          → reads (cond b (walked setting one (some x) els xs) Followed.No) ≡ b && follows setting one (some x) els xs
       go true q i = i
       go false q i = refl
 
@@ -70,26 +71,26 @@ module _ (map : List ℕ) (limit : ℕ) where
   and-false false = refl
 
   walked-completes : (two one : Option Event) (els : List Element) (xs : List Event)
-      → completes (walked map limit two one els xs) ≡ eqb (length xs) (length els) && follows map limit two one els xs
+      → completes (walked setting two one els xs) ≡ eqb (length xs) (length els) && follows setting two one els xs
   unfolding walked follows
   walked-completes two one [] [] = refl
   walked-completes two one (el ∷ els) [] = rw (ne-eqb 0 (suc (length els)) (λ h. omega arith))
   walked-completes two one [] (x ∷ xs) = sym (and-false (eqb (suc (length xs)) 0))
   walked-completes two one (el ∷ els) (x ∷ xs) =
-      rw (eqb-suc (length xs) (length els)) (go (fits map limit two el x) (walked-completes one (some x) els xs))
+      rw (eqb-suc (length xs) (length els)) (go (fits setting two el x) (walked-completes one (some x) els xs))
     where
       go : (b : Bool)
-          → completes (walked map limit one (some x) els xs) ≡ eqb (length xs) (length els) && follows map limit one (some x) els xs
-          → completes (cond b (walked map limit one (some x) els xs) Followed.No)
-          ≡ eqb (length xs) (length els) && (b && follows map limit one (some x) els xs)
+          → completes (walked setting one (some x) els xs) ≡ eqb (length xs) (length els) && follows setting one (some x) els xs
+          → completes (cond b (walked setting one (some x) els xs) Followed.No)
+          ≡ eqb (length xs) (length els) && (b && follows setting one (some x) els xs)
       go true i = i
       go false i = sym (and-false (eqb (length xs) (length els)))
 
-  followed-reads : (xs : List Event) (p : Production) → reads (followed map limit xs p) ≡ readsAsPrefix map limit xs p
+  followed-reads : (xs : List Event) (p : Production) → reads (followed setting xs p) ≡ readsAsPrefix setting xs p
   unfolding followed readsAsPrefix
   followed-reads xs p = walked-reads none none (sequence p) xs
 
-  followed-completes : (xs : List Event) (p : Production) → completes (followed map limit xs p) ≡ isWholeSequence map limit xs p
+  followed-completes : (xs : List Event) (p : Production) → completes (followed setting xs p) ≡ isWholeSequence setting xs p
   unfolding followed isWholeSequence readsAsPrefix
   followed-completes xs p = walked-completes none none (sequence p) xs
 
@@ -147,31 +148,31 @@ earliest-each : {A : Type 0} (f g : A → Bool) → ((x : A) → f x ≡ g x) �
 earliest-each f g h i [] = refl
 earliest-each f g h i (x ∷ xs) = ap₂ (λ (b : Bool) (o : Option ℕ). cond b (some i) o) (h x) (earliest-each f g h (suc i) xs)
 
-module _ (t : Table) (map : List ℕ) (limit : ℕ) where
-  pub passed-prefix : (xs : List Event) → someReads (passed t map limit xs) ≡ readingOf t map limit .prefix xs
+module _ (t : Table) (setting : Setting) where
+  pub passed-prefix : (xs : List Event) → someReads (passed t setting xs) ≡ readingOf t setting .prefix xs
   unfolding passed
   passed-prefix xs =
-      passes-reads (followed map limit xs) 0 false (t .productions)
-      ∙ any-each (λ p. reads (followed map limit xs p)) (readsAsPrefix map limit xs) (followed-reads map limit xs) (t .productions)
+      passes-reads (followed setting xs) 0 false (t .productions)
+      ∙ any-each (λ p. reads (followed setting xs p)) (readsAsPrefix setting xs) (followed-reads setting xs) (t .productions)
 
-  pub passed-chosen : (xs : List Event) → chosenBy (passed t map limit xs) ≡ readingOf t map limit .chosen xs
+  pub passed-chosen : (xs : List Event) → chosenBy (passed t setting xs) ≡ readingOf t setting .chosen xs
   unfolding passed
   passed-chosen xs =
-      passes-chosen (followed map limit xs) 0 false (t .productions)
-      ∙ earliest-each (λ p. completes (followed map limit xs p)) (isWholeSequence map limit xs) (followed-completes map limit xs) 0 (t .productions)
+      passes-chosen (followed setting xs) 0 false (t .productions)
+      ∙ earliest-each (λ p. completes (followed setting xs p)) (isWholeSequence setting xs) (followed-completes setting xs) 0 (t .productions)
 
-  pub passed-in : (xs : List Event) → chosenBy (passedIn t map limit xs) ≡ chosenIn (readingOf t map limit) xs
+  pub passed-in : (xs : List Event) → chosenBy (passedIn t setting xs) ≡ chosenIn (readingOf t setting) xs
   passed-in [] = refl
   passed-in (x ∷ xs) = passed-chosen (x ∷ xs)
 
 -- ---- The pass as a loop over the table's bytes
 
-module _ (map : List ℕ) (limit : ℕ) (l : List ℕ) (xs : List Event) where
+module _ (setting : Setting) (l : List ℕ) (xs : List Event) where
   -- what is left of it at production p
   pub onward : ℕ → Bool → Passed
-  onward p seen = passes (followed map limit xs) p seen (run (productionEntry l) p (productionTotal l - p))
+  onward p seen = passes (followed setting xs) p seen (run (productionEntry l) p (productionTotal l - p))
 
-  pub onward-start : passed (decode l) map limit xs ≡ onward 0 false
+  pub onward-start : passed (decode l) setting xs ≡ onward 0 false
   unfolding onward passed decode
   onward-start = let e : productionTotal l - 0 ≡ productionTotal l = omega arith in rw e
 
@@ -180,28 +181,28 @@ module _ (map : List ℕ) (limit : ℕ) (l : List ℕ) (xs : List Event) where
   onward-end p seen h = let e : productionTotal l - p ≡ 0 = omega arith in rw e
 
   onward-step : (p : ℕ) (seen : Bool) → p < productionTotal l
-      → onward p seen ≡ passNext (followed map limit xs (productionEntry l p)) p (onward (p + 1) seen) (onward (p + 1) true)
+      → onward p seen ≡ passNext (followed setting xs (productionEntry l p)) p (onward (p + 1) seen) (onward (p + 1) true)
   unfolding onward run passes
   onward-step p seen h = let e : productionTotal l - p ≡ suc (productionTotal l - (p + 1)) = omega arith in rw (e, add-one)
 
   -- the walk that the code makes for production p
   pub production-walk : (p : ℕ)
-      → followed map limit xs (productionEntry l p)
-      ≡ walked map limit none none (expanded (run (eventEntry l) (firstEvent l p) (productionEvents l p))) xs
+      → followed setting xs (productionEntry l p)
+      ≡ walked setting none none (expanded (run (eventEntry l) (firstEvent l p) (productionEvents l p))) xs
   unfolding followed sequence productionEntry
   production-walk p = refl
 
-  pub onward-no : (p : ℕ) (seen : Bool) (r : Followed) → p < productionTotal l → r ≡ followed map limit xs (productionEntry l p)
+  pub onward-no : (p : ℕ) (seen : Bool) (r : Followed) → p < productionTotal l → r ≡ followed setting xs (productionEntry l p)
       → r ≡ Followed.No → onward p seen ≡ onward (p + 1) seen
   onward-no p seen r h e q =
       onward-step p seen h ∙ ap (λ (s : Followed). passNext s p (onward (p + 1) seen) (onward (p + 1) true)) (sym e ∙ q)
 
-  pub onward-prefix : (p : ℕ) (seen : Bool) (r : Followed) → p < productionTotal l → r ≡ followed map limit xs (productionEntry l p)
+  pub onward-prefix : (p : ℕ) (seen : Bool) (r : Followed) → p < productionTotal l → r ≡ followed setting xs (productionEntry l p)
       → r ≡ Followed.Prefix → onward p seen ≡ onward (p + 1) true
   onward-prefix p seen r h e q =
       onward-step p seen h ∙ ap (λ (s : Followed). passNext s p (onward (p + 1) seen) (onward (p + 1) true)) (sym e ∙ q)
 
-  pub onward-whole : (p : ℕ) (seen : Bool) (r : Followed) → p < productionTotal l → r ≡ followed map limit xs (productionEntry l p)
+  pub onward-whole : (p : ℕ) (seen : Bool) (r : Followed) → p < productionTotal l → r ≡ followed setting xs (productionEntry l p)
       → r ≡ Followed.Whole → onward p seen ≡ Passed.Chosen p
   onward-whole p seen r h e q =
       onward-step p seen h ∙ ap (λ (s : Followed). passNext s p (onward (p + 1) seen) (onward (p + 1) true)) (sym e ∙ q)
@@ -271,86 +272,86 @@ module _ (l : List ℕ) (f : TableFacts l) where
       there = events-past l at p n size (s .place) e
 
 -- where the pass stands: at production p, whose events begin at `at`
-module _ (map : List ℕ) (limit : ℕ) (l : List ℕ) (xs : List Event) where
+module _ (setting : Setting) (l : List ℕ) (xs : List Event) where
   pub record Passing (seen : Bool) (at p : ℕ) : Type 0 where
     pub low : p ≤ productionTotal l
     pub place : at ≡ firstEvent l p
-    pub comes : passed (decode l) map limit xs ≡ onward map limit l xs p seen
+    pub comes : passed (decode l) setting xs ≡ onward setting l xs p seen
 
   pub passing-start : Passing false 0 0
-  passing-start = record { low = omega arith; place = sym (first-events l); comes = onward-start map limit l xs }
+  passing-start = record { low = omega arith; place = sym (first-events l); comes = onward-start setting l xs }
 
   module _ (seen : Bool) (at p size : ℕ) (w : Passing seen at p) (h : p < productionTotal l) (e : size ≡ productionEvents l p) where
     abbrev walk : Followed
-    walk = walked map limit none none (expanded (run (eventEntry l) at size)) xs
+    walk = walked setting none none (expanded (run (eventEntry l) at size)) xs
 
-    walk-is : walk ≡ followed map limit xs (productionEntry l p)
-    walk-is = rw (w .place, e) (sym (production-walk map limit l xs p))
+    walk-is : walk ≡ followed setting xs (productionEntry l p)
+    walk-is = rw (w .place, e) (sym (production-walk setting l xs p))
 
     placed : at + size ≡ firstEvent l (p + 1)
     placed = rw (w .place, e) (sym (next-events l p))
 
     pub passing-no : (r : Followed) → r ≡ walk → r ≡ Followed.No → Passing seen (at + size) (p + 1)
     passing-no r q n =
-        record { low = omega arith; place = placed; comes = w .comes ∙ onward-no map limit l xs p seen r h (q ∙ walk-is) n }
+        record { low = omega arith; place = placed; comes = w .comes ∙ onward-no setting l xs p seen r h (q ∙ walk-is) n }
 
     pub passing-prefix : (r : Followed) → r ≡ walk → r ≡ Followed.Prefix → Passing true (at + size) (p + 1)
     passing-prefix r q n =
-        record { low = omega arith; place = placed; comes = w .comes ∙ onward-prefix map limit l xs p seen r h (q ∙ walk-is) n }
+        record { low = omega arith; place = placed; comes = w .comes ∙ onward-prefix setting l xs p seen r h (q ∙ walk-is) n }
 
-    pub passing-whole : (r : Followed) → r ≡ walk → r ≡ Followed.Whole → passed (decode l) map limit xs ≡ Passed.Chosen p
-    passing-whole r q n = w .comes ∙ onward-whole map limit l xs p seen r h (q ∙ walk-is) n
+    pub passing-whole : (r : Followed) → r ≡ walk → r ≡ Followed.Whole → passed (decode l) setting xs ≡ Passed.Chosen p
+    passing-whole r q n = w .comes ∙ onward-whole setting l xs p seen r h (q ∙ walk-is) n
 
   pub passing-end : (seen : Bool) (at p : ℕ) → Passing seen at p → productionTotal l ≤ p
-      → passed (decode l) map limit xs ≡ cond seen Passed.Prefix Passed.No
-  passing-end seen at p w h = w .comes ∙ onward-end map limit l xs p seen h
+      → passed (decode l) setting xs ≡ cond seen Passed.Prefix Passed.No
+  passing-end seen at p w h = w .comes ∙ onward-end setting l xs p seen h
 
   -- productions before the bounds
-  module _ (low high : ℕ) (f : TableFacts l) (o : Outside l map xs low high) where
-    outside-low : (p : ℕ) → p < productionTotal l → firstEvent l p < low → followed map limit xs (productionEntry l p) ≡ Followed.No
+  module _ (low high : ℕ) (f : TableFacts l) (o : Outside l (setting .keyboard) xs low high) where
+    outside-low : (p : ℕ) → p < productionTotal l → firstEvent l p < low → followed setting xs (productionEntry l p) ≡ Followed.No
     outside-low p h b =
-        production-walk map limit l xs p
-        ∙ o .before limit (firstEvent l p) (productionEvents l p) (f .some p h) (f .within p h) b
+        production-walk setting l xs p
+        ∙ o .before setting refl (firstEvent l p) (productionEvents l p) (f .some p h) (f .within p h) b
 
     onward-over : (p : ℕ) → p ≤ productionTotal l → ((q : ℕ) → q < p → firstEvent l q < low)
-        → passed (decode l) map limit xs ≡ onward map limit l xs p false
-    onward-over zero h b = onward-start map limit l xs
+        → passed (decode l) setting xs ≡ onward setting l xs p false
+    onward-over zero h b = onward-start setting l xs
     onward-over (suc p) h b =
         let d : p < productionTotal l = omega arith in
         let a : firstEvent l p < low = b p (omega arith) in
         rw (← add-one)
         (onward-over p (omega arith) (λ q c. b q (omega arith))
-        ∙ onward-no map limit l xs p false (followed map limit xs (productionEntry l p)) d refl (outside-low p d a))
+        ∙ onward-no setting l xs p false (followed setting xs (productionEntry l p)) d refl (outside-low p d a))
 
     pub passing-over : (at p : ℕ) → Skipped l low at p → Passing false at p
     passing-over at p s = record { low = s .most; place = s .place; comes = onward-over p (s .most) (s .over) }
 
     -- and past them
-    outside-high : (p : ℕ) → p < productionTotal l → high ≤ firstEvent l p → followed map limit xs (productionEntry l p) ≡ Followed.No
+    outside-high : (p : ℕ) → p < productionTotal l → high ≤ firstEvent l p → followed setting xs (productionEntry l p) ≡ Followed.No
     outside-high p h b =
-        production-walk map limit l xs p
-        ∙ o .after limit (firstEvent l p) (productionEvents l p) (f .some p h) (f .within p h) b
+        production-walk setting l xs p
+        ∙ o .after setting refl (firstEvent l p) (productionEvents l p) (f .some p h) (f .within p h) b
 
     onward-past : (seen : Bool) (k p : ℕ) → p + k ≡ productionTotal l → high ≤ firstEvent l p
-        → onward map limit l xs p seen ≡ cond seen Passed.Prefix Passed.No
-    onward-past seen zero p e b = onward-end map limit l xs p seen (omega arith)
+        → onward setting l xs p seen ≡ cond seen Passed.Prefix Passed.No
+    onward-past seen zero p e b = onward-end setting l xs p seen (omega arith)
     onward-past seen (suc k) p e b =
         let d : p < productionTotal l = omega arith in
         let n : high ≤ firstEvent l (p + 1) = omega (arith, next-events l p) in
-        onward-no map limit l xs p seen (followed map limit xs (productionEntry l p)) d refl (outside-high p d b)
+        onward-no setting l xs p seen (followed setting xs (productionEntry l p)) d refl (outside-high p d b)
         ∙ onward-past seen k (p + 1) (omega arith) n
 
     pub passing-past : (seen : Bool) (at p : ℕ) → Passing seen at p → high ≤ at
-        → passed (decode l) map limit xs ≡ cond seen Passed.Prefix Passed.No
+        → passed (decode l) setting xs ≡ cond seen Passed.Prefix Passed.No
     passing-past seen at p w h =
         let l₀ = w .low in
         w .comes ∙ onward-past seen (productionTotal l - p) p (omega arith) (rw (← w .place) h)
 
 -- ---- The smallest start
 
-module _ (t : Table) (map : List ℕ) (limit : ℕ) (events : List Event) (to : ℕ) (long : length events ≡ 25) (room : to ≤ 25) where
+module _ (t : Table) (setting : Setting) (events : List Event) (to : ℕ) (long : length events ≡ 25) (room : to ≤ 25) where
   abbrev R : Reading Event
-  R = readingOf t map limit
+  R = readingOf t setting
 
   -- the stretch from a start on
   abbrev pub onFrom : ℕ → List Event
@@ -359,18 +360,18 @@ module _ (t : Table) (map : List ℕ) (limit : ℕ) (events : List Event) (to : 
   on-cons : (at : ℕ) → at < to → onFrom at ≡ getD events at zeroEvent ∷ onFrom (at + 1)
   on-cons at h = rw add-one (slice-cons at to events zeroEvent h (omega arith))
 
-  pub start-no : (at : ℕ) (r : Passed) → at < to → r ≡ passed t map limit (onFrom at) → r ≡ Passed.No
+  pub start-no : (at : ℕ) (r : Passed) → at < to → r ≡ passed t setting (onFrom at) → r ≡ Passed.No
       → longestEnd R (onFrom at) ≡ longestEnd R (onFrom (at + 1))
   start-no at r h e q =
-      longest-no R (onFrom at) (sym (passed-prefix t map limit (onFrom at)) ∙ ap someReads (sym e ∙ q)) (on-cons at h)
+      longest-no R (onFrom at) (sym (passed-prefix t setting (onFrom at)) ∙ ap someReads (sym e ∙ q)) (on-cons at h)
 
-  pub start-yes : (at : ℕ) (r : Passed) → at < to → r ≡ passed t map limit (onFrom at) → someReads r ≡ true
+  pub start-yes : (at : ℕ) (r : Passed) → at < to → r ≡ passed t setting (onFrom at) → someReads r ≡ true
       → onFrom at ≡ longestEnd R (onFrom at)
   start-yes at r h e q =
-      sym (longest-yes R (onFrom at) (sym (passed-prefix t map limit (onFrom at)) ∙ ap someReads (sym e) ∙ q))
+      sym (longest-yes R (onFrom at) (sym (passed-prefix t setting (onFrom at)) ∙ ap someReads (sym e) ∙ q))
 
   -- a stretch that is not empty
-  pub start-in : (at : ℕ) → at < to → passed t map limit (onFrom at) ≡ passedIn t map limit (onFrom at)
+  pub start-in : (at : ℕ) → at < to → passed t setting (onFrom at) ≡ passedIn t setting (onFrom at)
   start-in at h = rw (on-cons at h)
 
   on-end : onFrom to ≡ []
@@ -380,7 +381,7 @@ module _ (t : Table) (map : List ℕ) (limit : ℕ) (events : List Event) (to : 
   unfolding longestEnd
   start-end at e = rw (e, on-end)
 
-  pub start-none : (at : ℕ) → at ≡ to → Passed.No ≡ passedIn t map limit (onFrom at)
+  pub start-none : (at : ℕ) → at ≡ to → Passed.No ≡ passedIn t setting (onFrom at)
   start-none at e = rw (e, on-end)
 
 -- a production's events are among the table's

@@ -4,6 +4,7 @@ use mathlib.Core.Path.{_≡_}
 use mathlib.Core.Bool.{Bool, true, false, cond}
 use mathlib.Core.List.{List, [], _∷_}
 use mathlib.Core.Option.{none}
+use Rattle.model.specs.Setting.{Setting}
 use Rattle.model.specs.Tables.{Production, Table}
 use Rattle.model.specs.Counts.{sequence}
 use Rattle.model.specs.declared.events.Event.{Event}
@@ -14,8 +15,8 @@ use Rattle.walk.specs.declared.Passed.{Passed}
 
 -- ---- One production
 
-unfoldable pub followed : List ℕ → ℕ → List Event → Production → Followed
-followed map limit xs p = walked map limit none none (sequence p) xs
+unfoldable pub followed : Setting → List Event → Production → Followed
+followed setting xs p = walked setting none none (sequence p) xs
 
 -- ---- One pass over the productions
 
@@ -30,13 +31,13 @@ unfoldable pub passes : (Production → Followed) → ℕ → Bool → List Prod
 passes f i seen [] = cond seen Passed.Prefix Passed.No
 passes f i seen (p ∷ ps) = passNext (f p) i (passes f (suc i) seen ps) (passes f (suc i) true ps)
 
-unfoldable pub passed : Table → List ℕ → ℕ → List Event → Passed
-passed t map limit xs = passes (followed map limit xs) 0 false (t .productions)
+unfoldable pub passed : Table → Setting → List Event → Passed
+passed t setting xs = passes (followed setting xs) 0 false (t .productions)
 
 -- no context is open where there are no events
-abbrev pub passedIn : Table → List ℕ → ℕ → List Event → Passed
-passedIn t map limit [] = Passed.No
-passedIn t map limit (x ∷ xs) = passed t map limit (x ∷ xs)
+abbrev pub passedIn : Table → Setting → List Event → Passed
+passedIn t setting [] = Passed.No
+passedIn t setting (x ∷ xs) = passed t setting (x ∷ xs)
 
 -- production p has its events from `at` on, and those before it begin before `low`
 pub record Skipped (l : List ℕ) (low at p : ℕ) : Type 0 where

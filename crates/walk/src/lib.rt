@@ -8,7 +8,7 @@ ghost use Rattle.tables.specs.Whole.{whole};
 ghost use Rattle.words.specs.Runs.{total};
 ghost use Rattle.model.specs.Matching.{readingOf};
 ghost use Rattle.machine.specs.Kept.{longestEnd};
-ghost use Rattle.keyboard.specs.Maps.{mapNumbers};
+ghost use Rattle.keyboard.specs.Maps.{mapNumbers, lentSetting};
 ghost use Rattle.states.specs.State.{zeroEvent, slotsOf};
 ghost use Rattle.filter.specs.Filter.{soughtOf, Outside};
 ghost use Rattle.follow.specs.Follow.{WalkReady};
@@ -113,7 +113,7 @@ fn scan(
     reach: Reach,
 ) -> Passed
     requires { ⌜ WalkReady (now table) (mapNumbers (now map)) (now events) to × (from < to) × (one ≡ soughtOf (mapNumbers (now map)) (getD (slotsOf (now events)) from zeroEvent)) × Outside (now table) (mapNumbers (now map)) (drop from (take to (slotsOf (now events)))) (reach .low) (reach .high) ⌝ }
-    ensures { λ r. ⌜ r ≡ passed (decode (now (table .entry))) (mapNumbers (now (map .entry))) limit (drop from (take to (slotsOf (now (events .entry))))) ⌝ }
+    ensures { λ r. ⌜ r ≡ passed (decode (now (table .entry))) (lentSetting (now (map .entry)) limit) (drop from (take to (slotsOf (now (events .entry))))) ⌝ }
 {
     let n = tables::read::production_count(table);
     let spot = skip(table, reach.low as usize);
@@ -169,7 +169,7 @@ fn reach_of(table: &[u8], map: &[u8], events: &[u8], from: usize, to: usize, one
 // Events from..to against every production, in order.
 pub fn pass(table: &[u8], map: &[u8], limit: u32, events: &[u8], from: usize, to: usize) -> Passed
     requires { ⌜ WalkReady (now table) (mapNumbers (now map)) (now events) to × (from < to) ⌝ }
-    ensures { λ r. ⌜ r ≡ passed (decode (now (table .entry))) (mapNumbers (now (map .entry))) limit (drop from (take to (slotsOf (now (events .entry))))) ⌝ }
+    ensures { λ r. ⌜ r ≡ passed (decode (now (table .entry))) (lentSetting (now (map .entry)) limit) (drop from (take to (slotsOf (now (events .entry))))) ⌝ }
 {
     let one = filter::sought_of(map, slots::event_at(events, from));
     let reach = reach_of(table, map, events, from, to, one);
@@ -186,7 +186,7 @@ pub fn first_start(
     to: usize,
 ) -> Start
     requires { ⌜ WalkReady (now table) (mapNumbers (now map)) (now events) to × (from ≤ to) ⌝ }
-    ensures { λ r. ⌜ (r .at ≤ to) × (drop (r .at) (take to (slotsOf (now (events .entry)))) ≡ longestEnd (readingOf (decode (now (table .entry))) (mapNumbers (now (map .entry))) limit) (drop from (take to (slotsOf (now (events .entry)))))) × (r .found ≡ passedIn (decode (now (table .entry))) (mapNumbers (now (map .entry))) limit (drop (r .at) (take to (slotsOf (now (events .entry)))))) ⌝ }
+    ensures { λ r. ⌜ (r .at ≤ to) × (drop (r .at) (take to (slotsOf (now (events .entry)))) ≡ longestEnd (readingOf (decode (now (table .entry))) (lentSetting (now (map .entry)) limit)) (drop from (take to (slotsOf (now (events .entry)))))) × (r .found ≡ passedIn (decode (now (table .entry))) (lentSetting (now (map .entry)) limit) (drop (r .at) (take to (slotsOf (now (events .entry)))))) ⌝ }
 {
     let mut at = from;
     while at < to {

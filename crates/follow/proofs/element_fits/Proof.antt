@@ -6,7 +6,7 @@ use denote.Ref.{now}
 use borrow.Author.Tests.{not-true, not-false}
 use Rattle.tables.specs.Reading.{eventEntry}
 use Rattle.follow.specs.Follow.{elementOf}
-use Rattle.keyboard.specs.Maps.{mapNumbers}
+use Rattle.keyboard.specs.Maps.{lentSetting}
 use Rattle.fields.proofs.TableFacts.{table-facts}
 use Rattle.follow.proofs.EventLaws.{fits-other, fits-not, fits-untimed, fits-timed}
 use borrow.Author.Needs.{needs}
@@ -45,7 +45,7 @@ element-code-requires c κs =
 returns : tie.Need-returns
 returns c =
     let a = c .before .before .before .before .before .before .before .args in
-    sym (fits-other (mapNumbers (now (a .map))) (a .limit) (a .before) (eventEntry (now (a .table)) (a .i)) (a .k) (a .x) (λ h. c .if1 .taken (code-is (c .before .before) ∙ h)))
+    sym (fits-other (lentSetting (now (a .map)) (a .limit)) (a .before) (eventEntry (now (a .table)) (a .i)) (a .k) (a .x) (λ h. c .if1 .taken (code-is (c .before .before) ∙ h)))
 
 event-meets-requires : tie.Need-event-meets-requires
 event-meets-requires c κs = search needs
@@ -53,8 +53,8 @@ event-meets-requires c κs = search needs
 returns-2 : tie.Need-returns-2
 returns-2 c =
     let a = c .before .before .before .before .before .before .before .before .before .args in
-    sym (fits-not (mapNumbers (now (a .map))) (a .limit) (a .before) (eventEntry (now (a .table)) (a .i)) (a .k) (a .x)
-    (sym (code-is (c .before .before .before .before)) ∙ c .before .before .if1 .left) (sym (c .before .event-meets .ensures) ∙ not-true _ (c .if2 .taken)))
+    sym (fits-not (lentSetting (now (a .map)) (a .limit)) (a .before) (eventEntry (now (a .table)) (a .i)) (a .k) (a .x)
+    (sym (code-is (c .before .before .before .before)) ∙ c .before .before .if1 .left) (sym (c .before .event-meets .ensures (a .limit)) ∙ not-true _ (c .if2 .taken)))
 
 is-timed-requires : tie.Need-is-timed-requires
 is-timed-requires c κs =
@@ -66,8 +66,8 @@ is-timed-requires c κs =
 returns-3 : tie.Need-returns-3
 returns-3 c =
     let a = c .before .before .before .before .before .before .before .before .before .before .before .args in
-    sym (fits-untimed (mapNumbers (now (a .map))) (a .limit) (a .before) (eventEntry (now (a .table)) (a .i)) (a .k) (a .x)
-    (sym (code-is (c .before .before .before .before .before .before)) ∙ c .before .before .before .before .if1 .left) (sym (c .before .before .before .event-meets .ensures) ∙ not-false _ (c .before .before .if2 .left))
+    sym (fits-untimed (lentSetting (now (a .map)) (a .limit)) (a .before) (eventEntry (now (a .table)) (a .i)) (a .k) (a .x)
+    (sym (code-is (c .before .before .before .before .before .before)) ∙ c .before .before .before .before .if1 .left) (sym (c .before .before .before .event-meets .ensures (a .limit)) ∙ not-false _ (c .before .before .if2 .left))
     (sym (timed-is (c .before)) ∙ not-true _ (c .if3 .taken)))
 
 quick-requires : tie.Need-quick-requires
@@ -77,8 +77,8 @@ returns-4 : tie.Need-returns-4
 returns-4 c =
     let a = c .before .before .before .before .before .before .before .before .before .before .before .before .args in
     c .quick .ensures
-    ∙ sym (fits-timed (mapNumbers (now (a .map))) (a .limit) (a .before) (eventEntry (now (a .table)) (a .i)) (a .k) (a .x)
-    (sym (code-is (c .before .before .before .before .before .before .before)) ∙ c .before .before .before .before .before .if1 .left) (sym (c .before .before .before .before .event-meets .ensures) ∙ not-false _ (c .before .before .before .if2 .left))
+    ∙ sym (fits-timed (lentSetting (now (a .map)) (a .limit)) (a .before) (eventEntry (now (a .table)) (a .i)) (a .k) (a .x)
+    (sym (code-is (c .before .before .before .before .before .before .before)) ∙ c .before .before .before .before .before .if1 .left) (sym (c .before .before .before .before .event-meets .ensures (a .limit)) ∙ not-false _ (c .before .before .before .if2 .left))
     (sym (timed-is (c .before .before)) ∙ not-false _ (c .before .if3 .left)))
 
 pub element-fits-spec : {M : Type 1} → statement M

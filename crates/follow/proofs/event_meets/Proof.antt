@@ -11,7 +11,7 @@ use Rattle.model.specs.Modifiers.{stateMeets}
 use Rattle.tables.specs.Reading.{isFlag, eventEntry}
 use Rattle.follow.specs.Follow.{detailAsked}
 use Rattle.fields.specs.Fields.{flagsIn}
-use Rattle.keyboard.specs.Maps.{mapNumbers}
+use Rattle.keyboard.specs.Maps.{mapNumbers, lentSetting}
 use Rattle.fields.proofs.TableFacts.{table-facts}
 use Rattle.follow.proofs.EventLaws.{meets-not, meets-any, meets-detail}
 use borrow.Author.Needs.{needs}
@@ -61,18 +61,18 @@ state-meets-requires c κs =
     (rw (c .before .before .before .set-at .ensures) (e .setBelow), rw (c .before .before .clear-at .ensures) (e .clearBelow), p .1 .1 .state-most)
 
 returns : tie.Need-returns
-returns c =
+returns c limit =
     let a = c .before .before .before .before .before .before .before .before .args in
-    sym (meets-not (mapNumbers (now (a .map))) (now (a .table)) (a .i) (a .x) (c .before .before .before .before .before .before .before .before .pre .1 .1)
+    sym (meets-not (lentSetting (now (a .map)) limit) (now (a .table)) (a .i) (a .x) (c .before .before .before .before .before .before .before .before .pre .1 .1)
     (sym (state-met c.before) ∙ not-true _ (c .if1 .taken)))
 
 is-flag-requires-2 : tie.Need-is-flag-requires-2
 is-flag-requires-2 c κs = search needs
 
 returns-2 : tie.Need-returns-2
-returns-2 c =
+returns-2 c limit =
     let a = c .before .before .before .before .before .before .before .before .before .before .args in
-    sym (meets-any (mapNumbers (now (a .map))) (now (a .table)) (a .i) (a .x) (c .before .before .before .before .before .before .before .before .before .before .pre .1 .1)
+    sym (meets-any (lentSetting (now (a .map)) limit) (now (a .table)) (a .i) (a .x) (c .before .before .before .before .before .before .before .before .before .before .pre .1 .1)
     (sym (state-met (c .before .before .before)) ∙ not-false _ (c .before .before .if1 .left))
     (sym (c .before .is-flag2 .ensures ∙ ap (isFlag 4) (c .before .before .before .before .before .flags-at .ensures)) ∙ not-true _ (c .if2 .taken)))
 
@@ -89,14 +89,14 @@ detail-met-requires : tie.Need-detail-met-requires
 detail-met-requires c κs = search needs
 
 returns-3 : tie.Need-returns-3
-returns-3 c =
+returns-3 c limit =
     let a = c .before .before .before .before .before .before .before .before .before .before .before .before .before .args in
     let l = now (a .table) in
     let f = c .before .before .before .before .before .before .before .before .flags-at .ensures in
     c .detail-met .ensures
     ∙ asked (mapNumbers (now (a .map))) (a .x) (c .before .before .before .before .before .before .before .before .before .before .set-at .ensures) (c .before .before .before .before .before .before .before .before .before .clear-at .ensures)
     (c .before .before .is-flag3 .ensures ∙ ap (isFlag 1) f) (c .before .value-at .ensures)
-    ∙ meets-detail (mapNumbers (now (a .map))) l (a .i) (a .x) (c .before .before .before .before .before .before .before .before .before .before .before .before .before .pre .1 .1)
+    ∙ meets-detail (lentSetting (now (a .map)) limit) l (a .i) (a .x) (c .before .before .before .before .before .before .before .before .before .before .before .before .before .pre .1 .1)
     (sym (state-met (c .before .before .before .before .before .before)) ∙ not-false _ (c .before .before .before .before .before .if1 .left))
     (sym (c .before .before .before .before .is-flag2 .ensures ∙ ap (isFlag 4) f) ∙ not-false _ (c .before .before .before .if2 .left))
 

@@ -6,7 +6,7 @@ use denote.Ref.{now}
 use Rattle.tables.specs.Reading.{decode}
 use Rattle.walk.specs.declared.Passed.{Passed}
 use Rattle.follow.specs.Follow.{WalkReady}
-use Rattle.keyboard.specs.Maps.{mapNumbers}
+use Rattle.keyboard.specs.Maps.{mapNumbers, lentSetting}
 use Rattle.states.proofs.StateLaws.{state-facts}
 use Rattle.matcher.proofs.MoveLaws.{more-ready, heard-no, heard-yes}
 use borrow.Author.Needs.{needs}
@@ -66,7 +66,7 @@ returns c =
     let a = c .before .before .before .before .before .before .before .before .before .before .before .before .args in
     let f = state-facts (a .state) (c .before .before .before .before .before .before .before .before .before .before .before .before .pre .1 .0) in
     c .restart .ensures
-    ∙ heard-no (decode (now (a .table))) (mapNumbers (now (a .map))) (a .limit) (a .state) f (a .x) (c .before .before .before .before .before .before .before .put-event .last .0) (c .before .before .before .before .before .before .before .put-event .ensures)
+    ∙ heard-no (decode (now (a .table))) (lentSetting (now (a .map)) (a .limit)) (a .state) f (a .x) (c .before .before .before .before .before .before .before .put-event .last .0) (c .before .before .before .before .before .before .before .put-event .ensures)
     (c .before .before .before .before .pass .result) (c .before .before .before .before .pass .ensures) (c .before .before .enum-told .given .1)
 
 returns-2 : tie.Need-returns-2
@@ -75,7 +75,7 @@ returns-2 c =
     let f = state-facts (a .state) (c .before .before .before .before .before .before .before .before .before .before .before .pre .1 .0) in
     let q : c .before .before .before .pass .result ≡ Passed.Prefix = c .before .enum-told2 .given .1 in
     c .answered .ensures
-    ∙ heard-yes (decode (now (a .table))) (mapNumbers (now (a .map))) (a .limit) (a .state) f (a .x) (c .before .before .before .before .before .before .put-event .last .0) (c .before .before .before .before .before .before .put-event .ensures)
+    ∙ heard-yes (decode (now (a .table))) (lentSetting (now (a .map)) (a .limit)) (a .state) f (a .x) (c .before .before .before .before .before .before .put-event .last .0) (c .before .before .before .before .before .before .put-event .ensures)
     Passed.Prefix (sym q ∙ c .before .before .before .pass .ensures) refl
 
 returns-3 : tie.Need-returns-3
@@ -84,7 +84,7 @@ returns-3 c =
     let f = state-facts (a .state) (c .before .before .before .before .before .before .before .before .before .before .before .before .pre .1 .0) in
     let q = c .before .before .p .given .1 in
     c .answered2 .ensures
-    ∙ heard-yes (decode (now (a .table))) (mapNumbers (now (a .map))) (a .limit) (a .state) f (a .x) (c .before .before .before .before .before .before .before .put-event .last .0) (c .before .before .before .before .before .before .before .put-event .ensures)
+    ∙ heard-yes (decode (now (a .table))) (lentSetting (now (a .map)) (a .limit)) (a .state) f (a .x) (c .before .before .before .before .before .before .before .put-event .last .0) (c .before .before .before .before .before .before .before .put-event .ensures)
     (Passed.Chosen (c .before .before .p .given .0 .0)) (sym q ∙ c .before .before .before .before .pass .ensures) refl
 
 pub heard-spec : {M : Type 1} → statement M

@@ -2,7 +2,7 @@
 use mathlib.Core.Path.{_∙_}
 use denote.Ref.{now}
 use Rattle.tables.specs.Reading.{decode}
-use Rattle.keyboard.specs.Maps.{mapNumbers}
+use Rattle.keyboard.specs.Maps.{lentSetting}
 use Rattle.states.specs.State.{slotsOf}
 use Rattle.states.proofs.SlotLaws.{length-slots}
 use Rattle.matcher.proofs.MoveLaws.{restart-is}
@@ -32,7 +32,7 @@ returns c =
     let s = c .before .before .first-start in
     let u = c .before .before .before .used-up in
     c .answered .ensures
-    ∙ restart-is (decode (now (a .table))) (mapNumbers (now (a .map))) (a .limit) (slotsOf (now (a .events))) (a .to) (a .selected) (u .result) (s .result .at) (s .result .found) (c .before .shifted .result)
+    ∙ restart-is (decode (now (a .table))) (lentSetting (now (a .map)) (a .limit)) (slotsOf (now (a .events))) (a .to) (a .selected) (u .result) (s .result .at) (s .result .found) (c .before .shifted .result)
     (length-slots (now (a .events))) (p .0 .room) (s .ensures .0) (u .ensures) (s .ensures .1) (s .ensures .2) (c .before .shifted .ensures)
 
 pub restart-spec : {M : Type 1} → statement M
