@@ -5,3 +5,4 @@ pub mod StateLaws
 pub mod Matches
 pub mod Demand
 pub mod CallLaws
+pub mod Chain

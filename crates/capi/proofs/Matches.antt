@@ -1,33 +1,34 @@
 -- What the matcher answers through `tt_match`, case by case, and that its selection is small.
 use Prim.Native.Nat.{ℕ, _+_, _*_, _≤_, _<_}
 use native.Mathlib.Omega.{arith}
-use borrow.Author.Tests.{lt-ltb, le-ltb, not-false}
+use borrow.Author.Tests.{lt-ltb, le-ltb, eqb-true}
 use mathlib.Core.Path.{_≡_, refl, sym, ap, subst, _∙_}
-use mathlib.Core.Bool.{Bool, true, false, not, false≢true}
+use mathlib.Core.Bool.{Bool, true, false}
 use mathlib.Core.List.{List, [], _∷_}
 use mathlib.Core.Option.{Option, none, some}
 use lib.Dec.{eqb}
 use lib.ListN.{length}
 use Rattle.words.specs.Words.{cleared}
 use Rattle.words.proofs.RunLaws.{length-run}
-use Rattle.model.specs.Numbers.{matchOrder, matchedSelection}
+use Rattle.model.specs.Numbers.{matchedSelection}
+use Rattle.model.specs.Setting.{Setting}
 use Rattle.model.specs.Tables.{Table}
-use Rattle.model.specs.Records.{isBadRecord, recordRead}
+use Rattle.model.specs.Records.{recordRead}
 use Rattle.model.specs.Matching.{readingOf, isWholeSequence}
 use Rattle.model.specs.Demand.{MatchCall, selection}
 use Rattle.model.specs.declared.events.Event.{Event}
 use Rattle.model.specs.declared.answers.RecordRead.{RecordRead}
 use Rattle.model.specs.declared.answers.Matched.{Matched}
-use Rattle.machine.specs.Kept.{Kept, Step, moved, chosenIn, choice, passesContext, stepNumber, refuse, dropEvent, hear, act, stepped}
+use Rattle.machine.specs.Kept.{Kept, Step, moved, chosenIn, choice, stepNumber, refuse, dropEvent, hear, act, stepped}
 use Rattle.tables.specs.Reading.{decode, productionEntry, productionTotal}
 use Rattle.tables.specs.Whole.{whole}
 use Rattle.tables.proofs.Positions.{cond-both}
 use Rattle.table_check.proofs.WholeFacts.{facts-of-whole}
 use Rattle.states.specs.declared.State.{State}
 use Rattle.matcher.specs.declared.Answer.{Answer}
-use Rattle.states.specs.State.{keptOf, wholeState}
-use Rattle.keyboard.specs.Maps.{mapNumbers}
-use Rattle.matcher.specs.Match.{matchAnswer, stepAnswer, refusedWith, tooShort, matchNumber, callAnswer}
+use Rattle.states.specs.State.{keptOf}
+use Rattle.matcher.specs.Match.{matchAnswer, stepAnswer, refusedWith, matchNumber, callAnswer}
+use Rattle.matcher.proofs.MatchLaws.{past-all}
 use Rattle.capi.specs.State.{load}
 use Rattle.capi.specs.Match.{stored, freshNumber, freshBytes, selectionMark, matchedWord, leftBy, answerOn, matchedOn, stateLeft}
 use Rattle.capi.proofs.Bounds.{Below, earliest-below}
@@ -91,28 +92,28 @@ module _ (l : List ℕ) where
 
 -- ---- A call
 
-module _ (table map : List ℕ) (limit : ℕ) (state bytes : List ℕ) (order : ℕ) where
-  pub match-short : length state < 200 → (1 ≡ matchedWord (matchedOn table map limit state bytes order)) × (state ≡ stateLeft table map limit state bytes order)
+module _ (table : List ℕ) (setting : Setting) (state bytes : List ℕ) (order : ℕ) where
+  pub match-short : length state < 200 → (1 ≡ matchedWord (matchedOn table setting state bytes order)) × (state ≡ stateLeft table setting state bytes order)
   unfolding matchedOn stateLeft matchedWord
   match-short h = (rw (lt-ltb (length state) 200 h), rw (lt-ltb (length state) 200 h))
 
   module _ (h : 200 ≤ length state) where
-    answer-long : answerOn table map limit state bytes order .matched ≡ matchedOn table map limit state bytes order
+    answer-long : answerOn table setting state bytes order .matched ≡ matchedOn table setting state bytes order
     unfolding matchedOn
     answer-long = rw (le-ltb (length state) 200 h)
 
     left-long :
-        leftBy (answerOn table map limit state bytes order .matched) (answerOn table map limit state bytes order .state) state
-        ≡ stateLeft table map limit state bytes order
+        leftBy (answerOn table setting state bytes order .matched) (answerOn table setting state bytes order .state) state
+        ≡ stateLeft table setting state bytes order
     unfolding stateLeft
     left-long = rw (le-ltb (length state) 200 h)
 
-    module _ (s : State) (e : s ≡ load state) (x : Answer) (f : x ≡ matchAnswer table (mapNumbers map) limit s bytes order) where
-      same : x ≡ answerOn table map limit state bytes order
-      same = f ∙ ap (λ (u : State). matchAnswer table (mapNumbers map) limit u bytes order) e
+    module _ (s : State) (e : s ≡ load state) (x : Answer) (f : x ≡ matchAnswer table setting s bytes order) where
+      same : x ≡ answerOn table setting state bytes order
+      same = f ∙ ap (λ (u : State). matchAnswer table setting u bytes order) e
 
       pub match-long : (r : ℕ) (out : List ℕ) → r ≡ matchedWord (x .matched) → out ≡ leftBy (x .matched) (x .state) state
-          → (r ≡ matchedWord (matchedOn table map limit state bytes order)) × (out ≡ stateLeft table map limit state bytes order)
+          → (r ≡ matchedWord (matchedOn table setting state bytes order)) × (out ≡ stateLeft table setting state bytes order)
       match-long r out p q = (
         p ∙ ap (λ (u : Answer). matchedWord (u .matched)) same ∙ ap matchedWord answer-long,
         q ∙ ap (λ (u : Answer). leftBy (u .matched) (u .state) state) same ∙ left-long,
@@ -120,51 +121,44 @@ module _ (table map : List ℕ) (limit : ℕ) (state bytes : List ℕ) (order : 
 
 -- ---- A selection is one of at most 64 productions
 
-module _ (t : Table) (map : List ℕ) (limit : ℕ) (few : length (t .productions) ≤ 64) where
-  selection-few : (o : Option ℕ) → Below 64 o → markOf (selection t map limit o) ≤ 64
+module _ (t : Table) (setting : Setting) (few : length (t .productions) ≤ 64) where
+  selection-few : (o : Option ℕ) → Below 64 o → markOf (selection t setting o) ≤ 64
   selection-few none b = omega arith
   selection-few (some p) b = omega arith
 
-  chosen-few : (xs : List Event) → Below 64 (chosenIn (readingOf t map limit) xs)
+  chosen-few : (xs : List Event) → Below 64 (chosenIn (readingOf t setting) xs)
   chosen-few [] = tt
-  chosen-few (x ∷ xs) = earliest-below (isWholeSequence map limit (x ∷ xs)) 0 64 (t .productions) (omega arith)
+  chosen-few (x ∷ xs) = earliest-below (isWholeSequence setting (x ∷ xs)) 0 64 (t .productions) (omega arith)
 
-  act-few : (k : Kept Event) (r : RecordRead) → markOf (act t map limit k r .answer) ≤ 64
+  act-few : (k : Kept Event) (r : RecordRead) → markOf (act t setting k r .answer) ≤ 64
   unfolding choice
   act-few k (RecordRead.Refused n) = omega arith
   act-few k (RecordRead.Event x) =
-      cond-both (λ (s : Step). markOf (s .answer) ≤ 64) (readingOf t map limit .known x) (hear t map limit k x) (dropEvent t map limit k)
-      (λ _. selection-few (choice (readingOf t map limit) k x) (chosen-few (moved (readingOf t map limit) k x .events)))
+      cond-both (λ (s : Step). markOf (s .answer) ≤ 64) (readingOf t setting .known x) (hear t setting k x) (dropEvent t setting k)
+      (λ _. selection-few (choice (readingOf t setting) k x) (chosen-few (moved (readingOf t setting) k x .events)))
       (λ _. omega arith)
 
-  step-few : (k : Kept Event) (c : MatchCall) → markOf (stepped t map limit k c .answer) ≤ 64
+  step-few : (k : Kept Event) (c : MatchCall) → markOf (stepped t setting k c .answer) ≤ 64
   unfolding stepped
   step-few k c =
-      cond-both (λ (s : Step). markOf (s .answer) ≤ 64) (eqb (stepNumber t map limit k c) 0) (act t map limit k (recordRead (c .bytes) (c .order))) (refuse t map limit (stepNumber t map limit k c) k)
+      cond-both (λ (s : Step). markOf (s .answer) ≤ 64) (eqb (stepNumber t setting k c) 0) (act t setting k (recordRead (c .bytes) (c .order))) (refuse t setting (stepNumber t setting k c) k)
       (λ _. act-few k (recordRead (c .bytes) (c .order))) (λ _. omega arith)
-
-table-passes : (a b c d e : Bool) → eqb (matchOrder a b c d e) 0 ≡ true → b ≡ false
-table-passes true b c d e q = absurd (false≢true q)
-table-passes false true c d e q = absurd (false≢true q)
-table-passes false false c d e q = refl
 
 few-productions : (table : List ℕ) → whole table ≡ true → length (decode table .productions) ≤ 64
 unfolding decode
 few-productions table w = rw (length-run (productionEntry table) 0 (productionTotal table)) (facts-of-whole table w .productions)
 
-answer-few : (table map : List ℕ) (limit : ℕ) (s : State) (c : MatchCall) → markOf (callAnswer table map limit s c .matched) ≤ 64
-unfolding callAnswer stepAnswer matchNumber
-answer-few table map limit s c =
-    cond-both (λ (a : Answer). markOf (a .matched) ≤ 64) (eqb (matchNumber table map limit s c) 0) (stepAnswer (stepped (decode table) map limit (keptOf s) c)) (refusedWith (matchNumber table map limit s c) s)
+answer-few : (table : List ℕ) (setting : Setting) (s : State) (c : MatchCall) → markOf (callAnswer table setting s c .matched) ≤ 64
+unfolding callAnswer stepAnswer
+answer-few table setting s c =
+    cond-both (λ (a : Answer). markOf (a .matched) ≤ 64) (eqb (matchNumber table setting s c) 0) (stepAnswer (stepped (decode table) setting (keptOf s) c)) (refusedWith (matchNumber table setting s c) s)
     (λ e.
-    let w : whole table ≡ true = not-false (whole table)
-    (table-passes (tooShort table map) (not (whole table)) (not (wholeState s)) (isBadRecord (c .bytes) (c .order))
-    (passesContext (decode table) map limit (keptOf s) (recordRead (c .bytes) (c .order))) e) in
-    step-few (decode table) map limit (few-productions table w) (keptOf s) c)
+    let w : whole table ≡ true = past-all table setting s c (eqb-true (matchNumber table setting s c) 0 e) .0 .isWhole in
+    step-few (decode table) setting (few-productions table w) (keptOf s) c)
     (λ _. omega arith)
 
-pub matched-few : (table map : List ℕ) (limit : ℕ) (s : State) (bytes : List ℕ) (order : ℕ) (x : Answer)
-    → x ≡ matchAnswer table (mapNumbers map) limit s bytes order → selectionMark (matchedSelection (x .matched)) ≤ 64
-matched-few table map limit s bytes order x f =
+pub matched-few : (table : List ℕ) (setting : Setting) (s : State) (bytes : List ℕ) (order : ℕ) (x : Answer)
+    → x ≡ matchAnswer table setting s bytes order → selectionMark (matchedSelection (x .matched)) ≤ 64
+matched-few table setting s bytes order x f =
     subst (λ (u : Answer). selectionMark (matchedSelection (u .matched)) ≤ 64) (sym f)
-    (answer-few table (mapNumbers map) limit s (record { bytes = bytes; order = order }))
+    (answer-few table setting s (record { bytes = bytes; order = order }))

@@ -7,8 +7,8 @@ use mathlib.Core.List.{List, _++_}
 use mathlib.Core.Option.{none}
 use lib.ListN.{length, getD, drop}
 use Rattle.model.specs.Numbers.{stateNotWhole, matchedNumber, matchedSelection}
+use Rattle.model.specs.Setting.{Setting}
 use Rattle.model.specs.declared.answers.Matched.{Matched}
-use Rattle.keyboard.specs.Maps.{mapNumbers}
 use Rattle.tables.specs.Whole.{whole}
 use Rattle.states.specs.declared.State.{State}
 use Rattle.states.specs.State.{wholeState}
@@ -27,25 +27,28 @@ pub record StateLaws : Type 0 where
 
 -- ---- One call of `tt_match`, on any bytes
 
-pub record CallLaws (table keyboard : List ℕ) (limit : ℕ) (state bytes : List ℕ) (order : ℕ) : Type 0 where
+pub record CallLaws (table : List ℕ) (setting : Setting) (state bytes : List ℕ) (order : ℕ) : Type 0 where
   -- "Every .. state that an accepted call gives is whole"
   pub accepted :
-      matchedNumber (matchedOn table keyboard limit state bytes order) ≡ 0
-      → wholeState (load (stateLeft table keyboard limit state bytes order)) ≡ true
+      matchedNumber (matchedOn table setting state bytes order) ≡ 0
+      → wholeState (load (stateLeft table setting state bytes order)) ≡ true
+  -- "dropped: none selected, state unchanged"
+  pub dropped :
+      matchedOn table setting state bytes order ≡ Matched.Dropped → stateLeft table setting state bytes order ≡ state
   -- "A refused matcher call keeps the state and selects none."
   pub refused :
-      (matchedNumber (matchedOn table keyboard limit state bytes order) ≡ 0 → ⊥)
-      → (matchedSelection (matchedOn table keyboard limit state bytes order) ≡ none)
-      × (stateLeft table keyboard limit state bytes order ≡ state)
+      (matchedNumber (matchedOn table setting state bytes order) ≡ 0 → ⊥)
+      → (matchedSelection (matchedOn table setting state bytes order) ≡ none)
+      × (stateLeft table setting state bytes order ≡ state)
   -- 14 where no lent buffer is short, the table is whole, and the bytes load to no whole state
   pub notWhole :
-      stateLength ≤ length state → tooShort table (mapNumbers keyboard) ≡ false → whole table ≡ true
-      → wholeState (load state) ≡ false → matchedOn table keyboard limit state bytes order ≡ Matched.Refused stateNotWhole
+      stateLength ≤ length state → tooShort table (setting .keyboard) ≡ false → whole table ≡ true
+      → wholeState (load state) ≡ false → matchedOn table setting state bytes order ≡ Matched.Refused stateNotWhole
   -- and only for bytes that load to no whole state
   pub only :
-      matchedNumber (matchedOn table keyboard limit state bytes order) ≡ stateNotWhole → wholeState (load state) ≡ false
+      matchedNumber (matchedOn table setting state bytes order) ≡ stateNotWhole → wholeState (load state) ≡ false
   -- bytes past the state stay
-  pub past : drop stateLength (stateLeft table keyboard limit state bytes order) ≡ drop stateLength state
+  pub past : drop stateLength (stateLeft table setting state bytes order) ≡ drop stateLength state
 
 abbrev pub EveryCall : Type 0
-EveryCall = (table keyboard : List ℕ) (limit : ℕ) (state bytes : List ℕ) (order : ℕ) → CallLaws table keyboard limit state bytes order
+EveryCall = (table : List ℕ) (setting : Setting) (state bytes : List ℕ) (order : ℕ) → CallLaws table setting state bytes order

@@ -3,3 +3,4 @@ pub mod State
 pub mod Laws
 pub mod Match
 pub mod Demand
+pub mod Chain

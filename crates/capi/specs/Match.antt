@@ -6,8 +6,8 @@ use mathlib.Core.Option.{Option, none, some}
 use lib.Dec.{ltb}
 use lib.ListN.{length, drop}
 use Rattle.model.specs.Numbers.{noRefusal, shortBuffer, matchedNumber, matchedSelection}
+use Rattle.model.specs.Setting.{Setting}
 use Rattle.model.specs.declared.answers.Matched.{Matched}
-use Rattle.keyboard.specs.Maps.{mapNumbers}
 use Rattle.states.specs.declared.State.{State}
 use Rattle.matcher.specs.declared.Answer.{Answer}
 use Rattle.states.specs.State.{freshState}
@@ -51,10 +51,10 @@ keeps (Matched.Selected p) = false
 unfoldable pub leftBy : Matched → State → List ℕ → List ℕ
 leftBy a next state = cond (keeps a) state (stored next state)
 
-module _ (table map : List ℕ) (limit : ℕ) (state bytes : List ℕ) (order : ℕ) where
+module _ (table : List ℕ) (setting : Setting) (state bytes : List ℕ) (order : ℕ) where
   -- what the matcher answers to the state that the bytes load to
   abbrev pub answerOn : Answer
-  answerOn = matchAnswer table (mapNumbers map) limit (load state) bytes order
+  answerOn = matchAnswer table setting (load state) bytes order
 
   unfoldable pub matchedOn : Matched
   matchedOn = cond (stateShort state) (Matched.Refused shortBuffer) (answerOn .matched)

@@ -5,6 +5,7 @@ mod state;
 
 ghost use mathlib.Core.Path.{_≡_};
 ghost use Rattle.tables.specs.Layout.{tableLength};
+ghost use Rattle.keyboard.specs.Maps.{lentSetting};
 ghost use Rattle.compiler.specs.Compile.{compileAnswer, compiledBytes};
 ghost use Rattle.merger.specs.Merge.{mergeAnswer, mergedBytes};
 ghost use Rattle.printer.specs.Write.{written, writtenBytes};
@@ -147,8 +148,8 @@ pub extern "C" fn tt_match(
     record: &[u8],
     order: u8,
 ) -> u64
-    ensures { λ r. ⌜ r ≡ matchedWord (matchedOn (now (table .entry)) (now (map .entry)) time (now (state .entry)) (now («record» .entry)) order) ⌝ }
-    ensures { λ r. ⌜ now (state .exit) ≡ stateLeft (now (table .entry)) (now (map .entry)) time (now (state .entry)) (now («record» .entry)) order ⌝ }
+    ensures { λ r. ⌜ r ≡ matchedWord (matchedOn (now (table .entry)) (lentSetting (now (map .entry)) time) (now (state .entry)) (now («record» .entry)) order) ⌝ }
+    ensures { λ r. ⌜ now (state .exit) ≡ stateLeft (now (table .entry)) (lentSetting (now (map .entry)) time) (now (state .entry)) (now («record» .entry)) order ⌝ }
 {
     if state.len() < state::STATE_LENGTH {
         return 1;

@@ -1,3 +1,4 @@
 pub mod Matching
 pub mod Compiling
 pub mod Merging
+pub mod Numbered

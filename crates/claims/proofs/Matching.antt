@@ -1,15 +1,16 @@
 -- Demand 3 of the matcher that runs: its states stand for those of the bounded matcher, of which the claim is shown.
-use Prim.Native.Nat.{ℕ, _≤_}
+use Prim.Native.Nat.{ℕ}
 use native.Mathlib.Omega.{arith}
 use borrow.Author.Tests.{le-ltb}
-use mathlib.Core.Path.{_≡_, refl, sym, ap, _∙_}
+use mathlib.Core.Path.{_≡_, refl, sym, ap, _∙_, subst}
 use mathlib.Core.Bool.{Bool, true, false, cond, not}
 use mathlib.Core.List.{List, _++_}
 use lib.Dec.{eqb}
-use lib.ListN.{length, length-append}
+use lib.ListN.{length}
 use Rattle.model.specs.Numbers.{matchedNumber}
+use Rattle.model.specs.Setting.{Setting}
 use Rattle.model.specs.Tables.{Table}
-use Rattle.model.specs.Demand.{MatchCall}
+use Rattle.model.specs.Demand.{MatchCall, Demand3}
 use Rattle.model.specs.declared.answers.Matched.{Matched}
 use Rattle.machine.specs.Kept.{Step, stepNumber, stepped, keptMatcher}
 use Rattle.machine.specs.Viewed.{Views}
@@ -17,48 +18,46 @@ use Rattle.machine.proofs.Demand.{demand3, step-refuses}
 use Rattle.machine.proofs.Bounded.{stepped-bounded}
 use Rattle.machine.proofs.Viewed.{viewed}
 use Rattle.tables.specs.Layout.{tableLength, encode}
-use Rattle.tables.specs.Fitting.{fitting}
-use Rattle.tables.proofs.Theorems.{decode-encode, length-encode, whole-encode}
-use Rattle.tables.proofs.AcceptedFits.{accepted-fits}
+use Rattle.tables.specs.Reading.{decode}
+use Rattle.tables.specs.Whole.{whole}
+use Rattle.tables.proofs.Facts.{fit-facts}
+use Rattle.tables.proofs.Theorems.{whole-holds, whole-length, whole-encode, decode-encode}
 use Rattle.states.specs.declared.State.{State}
-use Rattle.matcher.specs.declared.Answer.{Answer}
 use Rattle.states.specs.State.{keptOf, stateKeeping, wholeState}
-use Rattle.matcher.specs.Match.{stepAnswer, refusedWith, tooShort, matchNumber, callAnswer}
 use Rattle.states.proofs.StateLaws.{state-facts, kept-bounded, kept-state, state-kept, fresh-whole, fresh-kept}
+use Rattle.matcher.specs.declared.Answer.{Answer}
+use Rattle.matcher.specs.Match.{stepAnswer, refusedWith, tooShort, matchNumber, callAnswer}
 use Rattle.matcher.proofs.NextLaws.{step-whole}
-use Rattle.claims.specs.Matching.{matcherOn, Demand3OnBytes}
+use Rattle.claims.specs.Matching.{matcherOn, Demand3OnWhole, Demand3Encoded}
 
 Good : State → Type 0
 Good s = wholeState s ≡ true
 
-module _ (t : Table) (fit : fitting t ≡ true) (after map : List ℕ) (limit : ℕ) where
-  abbrev table : List ℕ
-  table = encode t ++ after
+module _ (table : List ℕ) (w : whole table ≡ true) (setting : Setting) where
+  abbrev t : Table
+  t = decode table
 
-  long : tableLength ≤ length table
-  long = omega (arith, length-append (encode t) after, length-encode t fit)
-
-  short-map : tooShort table map ≡ not (eqb (length map) 496)
+  short-map : tooShort table (setting .keyboard) ≡ not (eqb (length (setting .keyboard)) 496)
   unfolding tooShort
-  short-map = rw (le-ltb (length table) tableLength long)
+  short-map = rw (le-ltb (length table) tableLength (whole-length table w))
 
   module _ (s : State) (c : MatchCall) (g : wholeState s ≡ true) where
     abbrev step : Step
-    step = stepped t map limit (keptOf s) c
+    step = stepped t setting (keptOf s) c
 
     abbrev number : ℕ
-    number = stepNumber t map limit (keptOf s) c
+    number = stepNumber t setting (keptOf s) c
 
-    same-number : matchNumber table map limit s c ≡ number
+    same-number : matchNumber table setting s c ≡ number
     unfolding matchNumber stepNumber
-    same-number = rw (short-map, whole-encode t fit after, g, decode-encode t fit after)
+    same-number = rw (short-map, w, g)
 
     abbrev answered : Bool → Answer
     answered b = cond b (stepAnswer step) (refusedWith number s)
 
-    same-answer : callAnswer table map limit s c ≡ answered (eqb number 0)
+    same-answer : callAnswer table setting s c ≡ answered (eqb number 0)
     unfolding callAnswer
-    same-answer = rw (same-number, decode-encode t fit after)
+    same-answer = rw same-number
 
     refused-step : eqb number 0 ≡ false → step ≡ record { answer = Matched.Refused number; next = keptOf s }
     unfolding stepped
@@ -72,44 +71,53 @@ module _ (t : Table) (fit : fitting t ≡ true) (after map : List ℕ) (limit : 
     next-same : (b : Bool) → eqb number 0 ≡ b → keptOf (answered b .state) ≡ step .next
     unfolding stepAnswer
     next-same true q =
-        let b = stepped-bounded t map limit (keptOf s) (kept-bounded s (state-facts s g)) c .few in
+        let b = stepped-bounded t setting (keptOf s) (kept-bounded s (state-facts s g)) c .few in
         kept-state (step .next) (omega arith)
     next-same false q = sym (ap (λ (u : Step). u .next) (refused-step q))
 
     next-whole : (b : Bool) → wholeState (answered b .state) ≡ true
     unfolding stepAnswer
-    next-whole true = step-whole t map limit s c g
+    next-whole true = step-whole t setting s c g
     next-whole false = g
 
     next-kept : (b : Bool) → (matchedNumber (step .answer) ≡ 0 → ⊥) → answered b .state ≡ s
     unfolding stepAnswer
     next-kept true f =
-        ap stateKeeping (step-refuses t map limit (keptOf s) c f .1) ∙ state-kept s (state-facts s g)
+        ap stateKeeping (step-refuses t setting (keptOf s) c f .1) ∙ state-kept s (state-facts s g)
     next-kept false f = refl
 
-    answer-is : callAnswer table map limit s c .matched ≡ step .answer
+    answer-is : callAnswer table setting s c .matched ≡ step .answer
     answer-is = rw same-answer (answer-same (eqb number 0) refl)
 
-    kept-is : (matchedNumber (callAnswer table map limit s c .matched) ≡ 0 → ⊥) → callAnswer table map limit s c .state ≡ s
+    kept-is : (matchedNumber (callAnswer table setting s c .matched) ≡ 0 → ⊥) → callAnswer table setting s c .state ≡ s
     kept-is f = rw same-answer (next-kept (eqb number 0) (λ z. f (ap matchedNumber answer-is ∙ z)))
 
-  views : Views (matcherOn table map limit) (keptMatcher t map limit) keptOf Good
+  views : Views (matcherOn table setting) (keptMatcher t setting) keptOf Good
   unfolding Good
   views =
       record {
         freshGood = fresh-whole;
-        nextGood = λ s c g.
-            rw (same-answer s c g) (next-whole s c g (eqb (stepNumber t map limit (keptOf s) c) 0));
+        nextGood = λ s c g. rw (same-answer s c g) (next-whole s c g (eqb (stepNumber t setting (keptOf s) c) 0));
         fresh = fresh-kept;
         answer = λ s c g. answer-is s c g;
-        next = λ s c g.
-            rw (same-answer s c g) (next-same s c g (eqb (stepNumber t map limit (keptOf s) c) 0) refl);
+        next = λ s c g. rw (same-answer s c g) (next-same s c g (eqb (stepNumber t setting (keptOf s) c) 0) refl);
         refused = λ s c g f. kept-is s c g f;
       }
 
 -- Demand 3
-pub demand3-on-bytes : Demand3OnBytes
-demand3-on-bytes t a after map limit cs =
-    viewed (matcherOn (encode t ++ after) map limit) (keptMatcher t map limit) keptOf Good
-    (views t (accepted-fits a) after map limit) t map limit cs
-    (demand3 t a map limit cs)
+pub demand3-on-whole : Demand3OnWhole
+demand3-on-whole table w setting cs =
+    viewed (matcherOn table setting) (keptMatcher (decode table) setting) keptOf Good (views table w setting)
+    (decode table) setting cs
+    (demand3 (decode table) (fit-facts (decode table) (whole-holds table w .fits) .limit) setting cs)
+
+-- the same where it is known what the bytes read as
+pub demand3-read :
+    (table : List ℕ) → whole table ≡ true → (t : Table) → decode table ≡ t → (setting : Setting) (cs : List MatchCall)
+    → Demand3 (matcherOn table setting) t setting cs
+demand3-read table w t e setting cs =
+    subst (λ (u : Table). Demand3 (matcherOn table setting) u setting cs) e (demand3-on-whole table w setting cs)
+
+pub demand3-encoded : Demand3Encoded
+demand3-encoded t fit after =
+    demand3-read (encode t ++ after) (whole-encode t fit after) t (decode-encode t fit after)
