@@ -19,7 +19,7 @@ use Rattle.merger.proofs.Theorems.{answer-number}
 use Rattle.claims.proofs.Numbered.{refused-numbered}
 use Rattle.claims.proofs.Compiling.{demand3-compiled}
 use Rattle.claims.proofs.Merging.{demand3-merged}
-use Rattle.capi.specs.Answers.{compileAnswer, compiledWord, mergedWord}
+use Rattle.capi.specs.Answers.{compiledWord, mergedWord}
 use Rattle.capi.specs.Demand.{EveryList}
 use Rattle.capi.specs.Chain.{AfterCompiling, AfterMerging}
 use Rattle.capi.proofs.Demand.{states-demand3}

@@ -7,9 +7,9 @@ use Rattle.model.specs.Tables.{Table}
 use Rattle.model.specs.Compiling.{accepted, compiled}
 use Rattle.model.specs.Merging.{mergedTable}
 use Rattle.tables.specs.Reading.{decode}
-use Rattle.compiler.specs.Compile.{compiledBytes}
+use Rattle.compiler.specs.Compile.{compileAnswer, compiledBytes}
 use Rattle.merger.specs.Merge.{mergeAnswer, mergedBytes}
-use Rattle.capi.specs.Answers.{compileAnswer, compiledWord, mergedWord}
+use Rattle.capi.specs.Answers.{compiledWord, mergedWord}
 use Rattle.capi.specs.Demand.{EveryList}
 
 -- where `tt_compile` returned 0 the text is accepted, and the calls on what the buffer then holds meet demand 3 for its table

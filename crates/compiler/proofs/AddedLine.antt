@@ -16,7 +16,7 @@ use Rattle.event_scanner.specs.Spans.{eventsIn}
 use Rattle.event_scanner.specs.LeftSide.{leftOf}
 use Rattle.call_scanner.specs.RightSide.{parameterNumber, callsIn}
 use Rattle.event_scanner.proofs.LeftSide.{LeftIn, left-in}
-use Rattle.lines.specs.Totals.{totalsOf, lineHeld}
+use Rattle.lines.specs.Totals.{totalsOf, heldLine}
 use Rattle.lines.specs.Line.{callsFound, callsStart}
 use Rattle.tables.specs.Layout as layout
 use Rattle.tables.specs.Layout.{Entries, allEvents, allCalls, image}
@@ -169,8 +169,8 @@ module _ (ps : List Production) (base : ℕ) (l : List ℕ) (p : Production) (g 
 
   -- ---- The line fits
 
-  pub line-fits : LineFits l (totalsOf ps) (lineHeld (callsStart l) p)
-  unfolding lineHeld
+  pub line-fits : LineFits l (totalsOf ps) (heldLine (callsStart l) p)
+  unfolding heldLine
   line-fits =
       let n = totals-are ps in
       let s = sums in
@@ -251,8 +251,8 @@ module _ (ps : List Production) (base : ℕ) (l : List ℕ) (p : Production) (g 
         ∙ written.put-production (moreCalls (moreEvents (soFar ps) (p .events)) (p .calls)) rest (room₂ h) (length (p .events)) (length (p .calls)) (b ∙ sym a) (omega (arith, s .productions))
         ∙ ap (λ (y : Entries). image y ++ rest) (so-far-more ps p)
 
-    pub line-held : putLine base l (totalsOf ps) (lineHeld (callsStart l) p) (held ps rest) ≡ held (ps ++ (p ∷ [])) rest
-    unfolding putLine held lineHeld
+    pub line-held : putLine base l (totalsOf ps) (heldLine (callsStart l) p) (held ps rest) ≡ held (ps ++ (p ∷ [])) rest
+    unfolding putLine held heldLine
     line-held =
         ap
         (λ (o : List ℕ).

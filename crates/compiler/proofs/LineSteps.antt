@@ -17,7 +17,7 @@ use Rattle.scanner.proofs.Runs.{run-from, run-in}
 use Rattle.lines.specs.declared.totals.Totals.{Totals}
 use Rattle.lines.specs.declared.totals.Line.{Line}
 use Rattle.lines.specs.declared.line.LineJudged.{LineJudged}
-use Rattle.lines.specs.Totals.{totalsOf, lineHeld, withLine, TotalsIn}
+use Rattle.lines.specs.Totals.{totalsOf, heldLine, withLine, TotalsIn}
 use Rattle.lines.specs.Line.{callsStart, judgedOf}
 use Rattle.lines.proofs.Sums.{totals-more, totals-in}
 use Rattle.tables.specs.Layout.{image, tableLength}
@@ -99,7 +99,7 @@ module _ (t : Totals) (out : List ℕ) (u : Underway t out) where
   pub record Adds (base : ℕ) (l : List ℕ) (line : Line) : Type 0 where
     pub p : Production
     pub outcome : lineOutcome (u .ps) base l ≡ add p
-    pub is : line ≡ lineHeld (callsStart l) p
+    pub is : line ≡ heldLine (callsStart l) p
 
   pub outcome-added : (base : ℕ) (l : List ℕ) (line : Line)
       → LineJudged.Add line ≡ judgedOf (callsStart l) (lineOutcome (u .ps) base l) → Adds base l line

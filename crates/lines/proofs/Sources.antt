@@ -20,7 +20,7 @@ use Rattle.event_scanner.proofs.LeftSide.{LeftIn, left-in}
 use Rattle.list_masks.proofs.Listed.{any-last}
 use Rattle.lines.specs.declared.totals.Line.{Line}
 use Rattle.lines.specs.declared.line.LineJudged.{LineJudged}
-use Rattle.lines.specs.Totals.{totalsOf, lineHeld, withLine, TotalsIn}
+use Rattle.lines.specs.Totals.{totalsOf, heldLine, withLine, TotalsIn}
 use Rattle.lines.specs.Line.{callsFound, callsStart, judgedOf}
 use Rattle.lines.proofs.Sums.{totals-more, either-left, either-right, totals-in}
 use Rattle.lines.proofs.Verdict.{productionOf}
@@ -32,8 +32,8 @@ answer-refuse right n (add p) e = let z : _≡_ {A = ℕ} 0 1 = cc in absurd (om
 answer-refuse right n (LineOutcome.refuse m) e = let q : m ≡ n = cc in ap LineOutcome.refuse q
 
 pub answer-add : (right : ℕ) (line : Line) (o : LineOutcome) → LineJudged.Add line ≡ judgedOf right o
-    → (p : Production) × (o ≡ add p) × (line ≡ lineHeld right p)
-answer-add right line (add p) e = let q : line ≡ lineHeld right p = cc in (p, refl, q)
+    → (p : Production) × (o ≡ add p) × (line ≡ heldLine right p)
+answer-add right line (add p) e = let q : line ≡ heldLine right p = cc in (p, refl, q)
 answer-add right line (LineOutcome.refuse m) e = let z : _≡_ {A = ℕ} 0 1 = cc in absurd (omega arith)
 
 -- ---- What was read
@@ -95,7 +95,7 @@ start-in l = go (leftSide l) (left-in l)
 -- ---- The limits with that line counted
 
 module _ (ps : List Production) (p : Production) (h : passesLimit (ps ++ (p ∷ [])) ≡ false) where
-  pub totals-next : (right : ℕ) → TotalsIn (withLine (totalsOf ps) (lineHeld right p))
+  pub totals-next : (right : ℕ) → TotalsIn (withLine (totalsOf ps) (heldLine right p))
   totals-next right = subst TotalsIn (totals-more ps p right) (totals-in (ps ++ (p ∷ [])) h)
 
   pub production-kept : productionPasses p ≡ false

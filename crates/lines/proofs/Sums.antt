@@ -16,7 +16,7 @@ use Rattle.model.specs.declared.events.KeptEvent.{KeptEvent}
 use Rattle.list_masks.proofs.Listed.{any-last}
 use Rattle.counts.proofs.Elements.{element-count, count-at-least}
 use Rattle.lines.specs.declared.totals.Totals.{Totals}
-use Rattle.lines.specs.Totals.{parametersIn, totalsOf, lineHeld, withLine, TotalsIn}
+use Rattle.lines.specs.Totals.{parametersIn, totalsOf, heldLine, withLine, TotalsIn}
 use Rattle.lines.specs.Line.{allPass}
 
 -- ---- Lists
@@ -32,8 +32,8 @@ module _ {A : Type 0} where
 -- ---- Totals
 
 pub totals-more : (ps : List Production) (p : Production) (right : ℕ)
-    → totalsOf (ps ++ (p ∷ [])) ≡ withLine (totalsOf ps) (lineHeld right p)
-unfolding totalsOf withLine lineHeld
+    → totalsOf (ps ++ (p ∷ [])) ≡ withLine (totalsOf ps) (heldLine right p)
+unfolding totalsOf withLine heldLine
 totals-more ps p right = λ i.
     record {
       productions = length-more ps p i;
@@ -59,13 +59,13 @@ either-right false b e = e
 
 -- one production more passes a limit by itself or in all
 pub passes-more : (ps : List Production) (p : Production) (right : ℕ) → passesLimit ps ≡ false
-    → passesLimit (ps ++ (p ∷ [])) ≡ productionPasses p || allPass (withLine (totalsOf ps) (lineHeld right p))
+    → passesLimit (ps ++ (p ∷ [])) ≡ productionPasses p || allPass (withLine (totalsOf ps) (heldLine right p))
 unfolding passesLimit
 passes-more ps p right h =
     let none : any productionPasses ps ≡ false = either-left (any productionPasses ps) (totalsPass ps) h in
     let each : any productionPasses (ps ++ (p ∷ [])) ≡ productionPasses p =
     any-last productionPasses ps p ∙ ap (λ (b : Bool). b || productionPasses p) none in
-    let all : totalsPass (ps ++ (p ∷ [])) ≡ allPass (withLine (totalsOf ps) (lineHeld right p)) =
+    let all : totalsPass (ps ++ (p ∷ [])) ≡ allPass (withLine (totalsOf ps) (heldLine right p)) =
     totals-pass (ps ++ (p ∷ [])) ∙ ap allPass (totals-more ps p right) in
     λ i. each i || all i
 

@@ -24,7 +24,7 @@ use Rattle.lines.specs.declared.totals.Totals.{Totals}
 use Rattle.lines.specs.declared.totals.Line.{Line}
 use Rattle.lines.specs.declared.left.LeftJudged.{LeftJudged}
 use Rattle.lines.specs.declared.line.LineJudged.{LineJudged}
-use Rattle.lines.specs.Totals.{parametersIn, totalsOf, lineHeld, withLine}
+use Rattle.lines.specs.Totals.{parametersIn, totalsOf, heldLine, withLine}
 use Rattle.lines.specs.Left.{IsRead, keptCounts, sideJudged}
 use Rattle.lines.specs.Line.{callsFound, callsStart, judgedOf, linePasses, allPass, limited}
 use Rattle.lines.proofs.Sums.{passes-more}
@@ -73,9 +73,9 @@ module _ (base : ℕ) (ks : List KeptEvent) (cs : List WrittenCall) where
       each (d ∷ ds) = λ i. parameters-shifted d i + each ds i
 
   counts-of : (right : ℕ)
-      → lineHeld right (productionOf base ks cs)
+      → heldLine right (productionOf base ks cs)
       ≡ record { events = length ks; elements = length (expanded ks); calls = length cs; parameters = inAll parameterNumber cs; right = right }
-  unfolding lineHeld sequence
+  unfolding heldLine sequence
   counts-of right = λ i.
       record {
         events = length ks;
@@ -98,8 +98,8 @@ module _ (base : ℕ) (ks : List KeptEvent) (cs : List WrittenCall) where
       each [] = refl
       each (d ∷ ds) = λ i. ltb parametersOfCallLimit (parameters-shifted d i) || each ds i
 
-  line-passes : (right : ℕ) → productionPasses (productionOf base ks cs) ≡ linePasses (lineHeld right (productionOf base ks cs)) (mostOf cs)
-  unfolding productionPasses linePasses lineHeld
+  line-passes : (right : ℕ) → productionPasses (productionOf base ks cs) ≡ linePasses (heldLine right (productionOf base ks cs)) (mostOf cs)
+  unfolding productionPasses linePasses heldLine
   line-passes right = λ i.
       ltb sequenceLimit (length (sequence (productionOf base ks cs)))
       || ltb callsOfProductionLimit (length (map (callOf base) cs))
@@ -110,22 +110,22 @@ module _ (base : ℕ) (ks : List KeptEvent) (cs : List WrittenCall) where
 -- the limits: in the model, of all productions with this one
 module _ (ps : List Production) (kept : passesLimit ps ≡ false) (base right : ℕ) (ks : List KeptEvent) (cs : List WrittenCall) where
   passes : passesLimit (ps ++ (productionOf base ks cs ∷ []))
-      ≡ linePasses (lineHeld right (productionOf base ks cs)) (mostOf cs)
-      || allPass (withLine (totalsOf ps) (lineHeld right (productionOf base ks cs)))
+      ≡ linePasses (heldLine right (productionOf base ks cs)) (mostOf cs)
+      || allPass (withLine (totalsOf ps) (heldLine right (productionOf base ks cs)))
   passes =
       passes-more ps (productionOf base ks cs) right kept
-      ∙ ap (λ (b : Bool). b || allPass (withLine (totalsOf ps) (lineHeld right (productionOf base ks cs)))) (line-passes base ks cs right)
+      ∙ ap (λ (b : Bool). b || allPass (withLine (totalsOf ps) (heldLine right (productionOf base ks cs)))) (line-passes base ks cs right)
 
   limits : leftVerdict (totalsOf ps) right (length cs) (inAll parameterNumber cs) (mostOf cs) (keptCounts (keep ks))
       ≡ judgedOf right (withinLimits ps (productionOf base ks cs))
   unfolding limited
   limits =
       ap (λ (line : Line). limited (totalsOf ps) line (mostOf cs)) (sym (counts-of base ks cs right))
-      ∙ ap (λ (b : Bool). cond b (LineJudged.Refuse pastLimit) (LineJudged.Add (lineHeld right (productionOf base ks cs)))) (sym passes)
+      ∙ ap (λ (b : Bool). cond b (LineJudged.Refuse pastLimit) (LineJudged.Add (heldLine right (productionOf base ks cs)))) (sym passes)
       ∙ pick (passesLimit (ps ++ (productionOf base ks cs ∷ [])))
     where
       pick : (b : Bool)
-          → cond b (LineJudged.Refuse pastLimit) (LineJudged.Add (lineHeld right (productionOf base ks cs)))
+          → cond b (LineJudged.Refuse pastLimit) (LineJudged.Add (heldLine right (productionOf base ks cs)))
           ≡ judgedOf right (cond b (LineOutcome.refuse pastLimit) (add (productionOf base ks cs)))
       pick true = refl
       pick false = refl

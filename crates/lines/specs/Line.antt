@@ -10,7 +10,7 @@ use Rattle.model.specs.Compiling.{LineOutcome, add}
 use Rattle.lines.specs.declared.totals.Totals.{Totals}
 use Rattle.lines.specs.declared.totals.Line.{Line}
 use Rattle.lines.specs.declared.line.LineJudged.{LineJudged}
-use Rattle.lines.specs.Totals.{lineHeld, withLine}
+use Rattle.lines.specs.Totals.{heldLine, withLine}
 
 -- where the calls of a line begin
 abbrev pub callsFound : EventsRead → ℕ
@@ -22,7 +22,7 @@ callsStart l = callsFound (leftSide l)
 
 -- the refusal, or the production by its counts
 abbrev pub judgedOf : ℕ → LineOutcome → LineJudged
-judgedOf right (add p) = LineJudged.Add (lineHeld right p)
+judgedOf right (add p) = LineJudged.Add (heldLine right p)
 judgedOf right (LineOutcome.refuse n) = LineJudged.Refuse n
 
 -- a limit of one production is passed; `most` is the largest number of parameters that one call has

@@ -23,8 +23,8 @@ totalsOf ps =
     }
 
 -- what one production holds, its calls written from `right` on
-unfoldable pub lineHeld : ℕ → Production → Line
-lineHeld right p =
+unfoldable pub heldLine : ℕ → Production → Line
+heldLine right p =
     record {
       events = length (p .events);
       elements = length (sequence p);

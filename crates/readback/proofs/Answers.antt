@@ -18,7 +18,8 @@ use Rattle.tables.specs.Layout.{tableLength}
 use Rattle.tables.specs.Reading.{decode}
 use Rattle.tables.specs.Whole.{whole}
 use Rattle.printer.specs.Write.{writeNotWhole, textWritten, writeNumber, written, writtenBytes}
-use Rattle.readback.specs.ReadBack.{answerOver, textLeft}
+use Rattle.compiler.specs.Compile.{compileAnswer}
+use Rattle.readback.specs.ReadBack.{textLeft}
 
 -- ---- The compiler
 
@@ -28,11 +29,11 @@ pub record Taken (text buffer : List ℕ) : Type 0 where
   pub room : tableLength ≤ length buffer
 
 module _ (text buffer : List ℕ) where
-  pub answer-long : tableLength ≤ length buffer → answerOver text buffer ≡ outcomeAnswer (compiled text)
+  pub answer-long : tableLength ≤ length buffer → compileAnswer text buffer ≡ outcomeAnswer (compiled text)
   unfolding compileOutcome
   answer-long h = rw (le-ltb (length buffer) tableLength h)
 
-  pub taken : answerOver text buffer ≡ Compiled.Accepted → Taken text buffer
+  pub taken : compileAnswer text buffer ≡ Compiled.Accepted → Taken text buffer
   unfolding compileOutcome
   taken e = go (ltb (length buffer) tableLength) refl
     where

@@ -23,7 +23,7 @@ use Rattle.tables.specs.Reading.{decode}
 use Rattle.tables.specs.Fitting.{textsInRange, hasEvent, eventInRange, callInRange, fitting}
 use Rattle.tables.specs.Whole.{whole}
 use Rattle.tables.proofs.Theorems.{whole-holds, whole-length}
-use Rattle.compiler.specs.Compile.{compiledBytes}
+use Rattle.compiler.specs.Compile.{compileAnswer, compiledBytes}
 use Rattle.compiler.proofs.Outcomes.{accepted-is-whole}
 use Rattle.merger.specs.Merge.{mergeAnswer, mergedBytes}
 use Rattle.merger.proofs.Theorems.{accepted-whole, accepted-decode}
@@ -31,7 +31,7 @@ use Rattle.printer.specs.Write.{written}
 use Rattle.roundtrip.specs.Contents.{contents}
 use Rattle.roundtrip.specs.RoundTrip.{CameFrom, ReadsBack}
 use Rattle.roundtrip.proofs.RoundTrip.{round-trip}
-use Rattle.readback.specs.ReadBack.{answerOver, Lent, ReadAgain, textLeft, ReadBack}
+use Rattle.readback.specs.ReadBack.{Lent, ReadAgain, textLeft, ReadBack}
 use Rattle.readback.proofs.Within.{contents-within, canonical-within}
 use Rattle.readback.proofs.Answers.{Taken, taken, answer-long, Left, left, writes-all}
 
@@ -167,7 +167,7 @@ module _ (table first second : List ℕ) (k : Known table first second) where
         }
 
 long-refused : (table first second out : List ℕ) (n : ℕ) → Left table first second out n → textLimit < n → (buffer : List ℕ) → tableLength ≤ length buffer
-    → answerOver (textLeft table first second out n) buffer ≡ Compiled.Refused longText 0
+    → compileAnswer (textLeft table first second out n) buffer ≡ Compiled.Refused longText 0
 long-refused table first second out n l h buffer room =
     let d : textLimit < length (canonicalText first second (decode table)) = omega (arith, l .length-is) in
     answer-long (textLeft table first second out n) buffer room

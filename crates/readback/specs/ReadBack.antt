@@ -7,11 +7,9 @@ use Prim.Native.Nat.{ℕ, _≤_, _<_}
 use mathlib.Core.Path.{_≡_}
 use mathlib.Core.Bool.{true}
 use mathlib.Core.List.{List, [], _++_}
-use lib.Dec.{ltb}
 use lib.ListN.{length, take}
 use Rattle.model.specs.Limits.{textLimit}
 use Rattle.model.specs.Numbers.{longText}
-use Rattle.model.specs.Compiling.{compileOutcome, outcomeAnswer}
 use Rattle.model.specs.Canonical.{canonicalText}
 use Rattle.model.specs.declared.answers.Compiled.{Compiled}
 use Rattle.model.specs.declared.answers.Merged.{Merged}
@@ -19,27 +17,23 @@ use Rattle.model.specs.declared.answers.Written.{Written}
 use Rattle.tables.specs.Layout.{tableLength}
 use Rattle.tables.specs.Reading.{decode}
 use Rattle.tables.specs.Whole.{whole}
-use Rattle.compiler.specs.Compile.{compiledBytes}
+use Rattle.compiler.specs.Compile.{compileAnswer, compiledBytes}
 use Rattle.merger.specs.Merge.{mergeAnswer, mergedBytes}
 use Rattle.printer.specs.Write.{written, writtenBytes}
 use Rattle.roundtrip.specs.Contents.{contents}
-
--- what `compile` answers
-abbrev pub answerOver : (text buffer : List ℕ) → Compiled
-answerOver text buffer = outcomeAnswer (compileOutcome (ltb (length buffer) tableLength) text)
 
 -- The bytes of a table and the two texts that are lent with it: "An accepted table is one that an accepted call gave, with its
 -- texts unchanged." More bytes may follow either text.
 pub data Lent : (table first second : List ℕ) → Type 0 where
   -- a compiled table's text is the first, whatever the second
   byCompile :
-      (text buffer more second : List ℕ) → answerOver text buffer ≡ Compiled.Accepted
+      (text buffer more second : List ℕ) → compileAnswer text buffer ≡ Compiled.Accepted
       → Lent (compiledBytes text buffer) (text ++ more) second
   -- "the old table's text is the first"
   byMerge :
       (old new oldBuffer newBuffer out more later : List ℕ)
-      → answerOver old oldBuffer ≡ Compiled.Accepted
-      → answerOver new newBuffer ≡ Compiled.Accepted
+      → compileAnswer old oldBuffer ≡ Compiled.Accepted
+      → compileAnswer new newBuffer ≡ Compiled.Accepted
       → mergeAnswer (compiledBytes old oldBuffer) (compiledBytes new newBuffer) out ≡ Merged.Accepted
       → Lent (mergedBytes (compiledBytes old oldBuffer) (compiledBytes new newBuffer) out) (old ++ more) (new ++ later)
 
@@ -49,7 +43,7 @@ textLeft table first second out n = take n (writtenBytes table first second out)
 
 -- a text compiled into a buffer, beside the table that the text was written from
 pub record ReadAgain (table first second text buffer : List ℕ) : Type 0 where
-  pub accepts : answerOver text buffer ≡ Compiled.Accepted
+  pub accepts : compileAnswer text buffer ≡ Compiled.Accepted
   -- as many productions, and one by one the same events as kept, and calls of the same names and parameters
   pub same : contents text [] (decode (compiledBytes text buffer)) ≡ contents first second (decode table)
   -- and the text is the canonical one of what it reads to
@@ -73,7 +67,7 @@ pub record ReadBack : Type 0 where
   pub long :
       (table first second out : List ℕ) (n : ℕ) → written table first second out ≡ Written.Accepted n → textLimit < n
       → (buffer : List ℕ) → tableLength ≤ length buffer
-      → answerOver (textLeft table first second out n) buffer ≡ Compiled.Refused longText 0
+      → compileAnswer (textLeft table first second out n) buffer ≡ Compiled.Refused longText 0
   -- of any whole table, the bytes of a lent text past those that the table keeps play no part
   pub within :
       (table first second more later : List ℕ) → whole table ≡ true
