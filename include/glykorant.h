@@ -77,7 +77,9 @@ enum tt_number {
     /* An event record that is not 32 bytes, a code outside 2..34, a key
      * event's keycode below 8, or a byte order other than 'l' and 'B'. */
     TT_BAD_RECORD = 13,
-    /* The state's bytes are no state that a call leaves. */
+    /* The state's bytes lie outside the ranges of a state (docs/LAYOUT.md).
+     * It is a test of ranges: bytes within them pass, whether or not a call
+     * would leave them. */
     TT_STATE_NOT_WHOLE = 14,
     /* The context would keep more than 24 events. No call gives it: no table
      * that is whole has a longer sequence. */

@@ -17,8 +17,8 @@ use Rattle.model.specs.declared.answers.Counted.{Counted}
 use Rattle.model.specs.declared.answers.Located.{Located}
 use Rattle.tables.specs.Reading.{productionTotal, productionCalls, firstCall, productionEntry, callTotal, markEntry, nameEntry, callParameters, firstParameter, parameterEntry, callEntry, decode}
 use Rattle.tables.specs.Whole.{whole}
-use Rattle.tables.proofs.Exact.{whole-facts}
-use Rattle.tables.proofs.CheckFacts.{CheckFacts, calls-within, parameters-within}
+use Rattle.table_check.proofs.Exact.{whole-facts}
+use Rattle.table_check.proofs.CheckFacts.{CheckFacts, calls-within, parameters-within}
 use Rattle.calls.specs.declared.Place.{Place}
 use Rattle.calls.specs.Places.{placeOf}
 

@@ -3,8 +3,3 @@ pub mod Asked
 pub mod Located
 pub mod Answered
 pub mod PartLaws
-pub mod LineRuns
-pub mod WrittenCalls
-pub mod WrittenTables
-pub mod ReadBack
-pub mod Shown

@@ -2,5 +2,3 @@ pub mod Refusals
 pub mod Places
 pub mod Answers
 pub mod Parts
-pub mod ReadOut
-pub mod Examples

@@ -5,11 +5,13 @@ use model::answers::Located;
 use model::scan::Span;
 ghost use mathlib.Core.Path.{_≡_};
 ghost use mathlib.Core.Bool.{true};
-ghost use Rattle.model.specs.Asking.{located};
+ghost use Rattle.model.specs.Numbers.{countedNumber, locatedNumber};
+ghost use Rattle.model.specs.Asking.{located, productionCount, callCount, parameterCount, locatedName, locatedParameter};
+ghost use Rattle.tables.specs.Reading.{decode};
 ghost use Rattle.tables.specs.Whole.{whole};
 ghost use Rattle.calls.specs.Refusals.{tableRefusal, lentRefusal};
 ghost use Rattle.calls.specs.Places.{placeOf};
-ghost use Rattle.calls.specs.Answers.{productionsAnswer, callsAnswer, parametersAnswer, nameAnswer, parameterAnswer};
+ghost use Rattle.calls.specs.Answers.{countNumber, CountValue, productionsAnswer, callsAnswer, parametersAnswer, placeNumber, PlaceValues, nameAnswer, parameterAnswer};
 ghost use Rattle.calls.specs.Parts.{PartWithin, IsPart};
 
 // The place of a call among all calls of the table.
@@ -27,7 +29,7 @@ fn table_refusal(table: &[u8]) -> u8
     if table.len() < tables::TABLE_LENGTH {
         return 1;
     }
-    if !tables::check::whole(table) {
+    if !table_check::whole(table) {
         return 12;
     }
     0
@@ -40,7 +42,7 @@ fn lent_refusal(table: &[u8], first: &[u8], second: &[u8]) -> u8
     if table.len() < tables::TABLE_LENGTH {
         return 1;
     }
-    if !tables::check::whole(table) {
+    if !table_check::whole(table) {
         return 12;
     }
     if first.len() < tables::read::first_length(table) {
@@ -55,7 +57,9 @@ fn lent_refusal(table: &[u8], first: &[u8], second: &[u8]) -> u8
 // ---- How many
 
 pub fn productions(table: &[u8]) -> Counted
-    ensures { λ r. ⌜ r ≡ productionsAnswer (now (table .entry)) ⌝ }
+    ensures answer { λ r. ⌜ r ≡ productionsAnswer (now (table .entry)) ⌝ }
+    ensures number { λ r. ⌜ countedNumber r ≡ countNumber (now (table .entry)) (productionCount (decode (now (table .entry)))) ⌝ }
+    ensures count { λ r. ⌜ CountValue (productionCount (decode (now (table .entry)))) r ⌝ }
 {
     let refusal = table_refusal(table);
     if refusal != 0 {
@@ -65,7 +69,9 @@ pub fn productions(table: &[u8]) -> Counted
 }
 
 pub fn call_count(table: &[u8], production: usize) -> Counted
-    ensures { λ r. ⌜ r ≡ callsAnswer (now (table .entry)) production ⌝ }
+    ensures answer { λ r. ⌜ r ≡ callsAnswer (now (table .entry)) production ⌝ }
+    ensures number { λ r. ⌜ countedNumber r ≡ countNumber (now (table .entry)) (callCount (decode (now (table .entry))) production) ⌝ }
+    ensures count { λ r. ⌜ CountValue (callCount (decode (now (table .entry))) production) r ⌝ }
 {
     let refusal = table_refusal(table);
     if refusal != 0 {
@@ -92,7 +98,9 @@ fn find_call(table: &[u8], production: usize, call: usize) -> Place
 }
 
 pub fn parameter_count(table: &[u8], production: usize, call: usize) -> Counted
-    ensures { λ r. ⌜ r ≡ parametersAnswer (now (table .entry)) production call ⌝ }
+    ensures answer { λ r. ⌜ r ≡ parametersAnswer (now (table .entry)) production call ⌝ }
+    ensures number { λ r. ⌜ countedNumber r ≡ countNumber (now (table .entry)) (parameterCount (decode (now (table .entry))) production call) ⌝ }
+    ensures count { λ r. ⌜ CountValue (parameterCount (decode (now (table .entry))) production call) r ⌝ }
 {
     let refusal = table_refusal(table);
     if refusal != 0 {
@@ -131,7 +139,9 @@ pub fn locate_name(
     production: usize,
     call: usize,
 ) -> Located
-    ensures { λ r. ⌜ r ≡ nameAnswer (now (table .entry)) (now (first .entry)) (now (second .entry)) production call ⌝ }
+    ensures answer { λ r. ⌜ r ≡ nameAnswer (now (table .entry)) (now (first .entry)) (now (second .entry)) production call ⌝ }
+    ensures number { λ r. ⌜ locatedNumber r ≡ placeNumber (now (table .entry)) (now (first .entry)) (now (second .entry)) (locatedName (decode (now (table .entry))) production call) ⌝ }
+    ensures values { λ r. ⌜ PlaceValues (locatedName (decode (now (table .entry))) production call) r ⌝ }
 {
     let refusal = lent_refusal(table, first, second);
     if refusal != 0 {
@@ -156,7 +166,9 @@ pub fn locate_parameter(
     call: usize,
     parameter: usize,
 ) -> Located
-    ensures { λ r. ⌜ r ≡ parameterAnswer (now (table .entry)) (now (first .entry)) (now (second .entry)) production call parameter ⌝ }
+    ensures answer { λ r. ⌜ r ≡ parameterAnswer (now (table .entry)) (now (first .entry)) (now (second .entry)) production call parameter ⌝ }
+    ensures number { λ r. ⌜ locatedNumber r ≡ placeNumber (now (table .entry)) (now (first .entry)) (now (second .entry)) (locatedParameter (decode (now (table .entry))) production call parameter) ⌝ }
+    ensures values { λ r. ⌜ PlaceValues (locatedParameter (decode (now (table .entry))) production call parameter) r ⌝ }
 {
     let refusal = lent_refusal(table, first, second);
     if refusal != 0 {

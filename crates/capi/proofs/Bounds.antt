@@ -24,13 +24,13 @@ use Rattle.tables.specs.Reading.{decode, productionTotal, firstLengthIn, second
 use Rattle.tables.specs.Whole.{whole}
 use Rattle.words.proofs.Laws.{length-zeros}
 use Rattle.tables.proofs.Positions.{cond-both}
-use Rattle.tables.proofs.WholeFacts.{facts-of-whole}
+use Rattle.table_check.proofs.WholeFacts.{facts-of-whole}
 use Rattle.tables.proofs.Theorems.{whole-holds}
 use Rattle.calls.specs.declared.Place.{Place}
 use Rattle.calls.specs.Places.{placeOf}
 use Rattle.calls.specs.Parts.{PartWithin}
 use Rattle.calls.specs.Refusals.{isShort, tableBroken, textsShort, lentNotWhole, tableRefusal, lentRefusal}
-use Rattle.calls.specs.Answers.{noCount, orRefused, countAnswer, productionsAnswer, callsAnswer, parametersAnswer, noPlace, placed, placeAnswer, nameAnswer, parameterAnswer}
+use Rattle.calls.specs.Answers.{noCount, countNumber, orRefused, countAnswer, productionsAnswer, callsAnswer, parametersAnswer, noPlace, placeNumber, placed, placeAnswer, nameAnswer, parameterAnswer}
 use Rattle.calls.proofs.Orders.{table-whole, lent-whole}
 use Rattle.calls.proofs.Asked.{productions-here, calls-here, calls-past, parameters-here, parameters-past, place-below}
 use Rattle.calls.proofs.Located.{name-within, parameter-within}
@@ -112,7 +112,7 @@ module _ (table : List ℕ) where
   stops-small false false (Counted.Refused n) h = omega arith
 
   count-small : (asked : Counted) → (whole table ≡ true → countedCount asked ≤ 64) → countedCount (countAnswer table asked) ≤ 64
-  unfolding countAnswer tableRefusal
+  unfolding countAnswer countNumber tableRefusal
   count-small asked h = stops-small (isShort table) (tableBroken table) asked (λ e. h (table-whole table e))
 
   pub productions-small : countedCount (productionsAnswer table) ≤ 64
@@ -151,7 +151,7 @@ module _ (table first second : List ℕ) where
   stops-short false false (Located.Refused n) h = omega arith
 
   place-short : (asked : Located) → (whole table ≡ true → endOf asked ≤ 8192) → endOf (placeAnswer table first second asked) ≤ 8192
-  unfolding placeAnswer lentRefusal
+  unfolding placeAnswer placeNumber lentRefusal
   place-short asked h = stops-short (isShort table) (lentNotWhole table first second) asked (λ e. h (lent-whole table first second e))
 
 -- a part that lies in texts of at most 8,192 bytes

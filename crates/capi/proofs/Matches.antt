@@ -23,7 +23,7 @@ use Rattle.machine.specs.Kept.{Kept, Step, moved, chosenIn, choice, stepNumber,
 use Rattle.tables.specs.Reading.{decode, productionEntry, productionTotal}
 use Rattle.tables.specs.Whole.{whole}
 use Rattle.tables.proofs.Positions.{cond-both}
-use Rattle.tables.proofs.WholeFacts.{facts-of-whole}
+use Rattle.table_check.proofs.WholeFacts.{facts-of-whole}
 use Rattle.states.specs.declared.State.{State}
 use Rattle.matcher.specs.declared.Answer.{Answer}
 use Rattle.states.specs.State.{keptOf}

@@ -1,17 +1,12 @@
 -- Each answer as one number of 64 bits, for callers in C: document 01's number in the lowest byte, and its values above it.
 use Prim.Native.Nat.{ℕ, _+_, _*_}
 use mathlib.Core.Bool.{cond}
-use mathlib.Core.List.{List}
-use lib.Dec.{ltb}
-use lib.ListN.{length}
 use Rattle.model.specs.Numbers.{compiledNumber, compiledPlace, mergedNumber, writtenNumber, writtenLength, countedNumber, countedCount, locatedNumber, locatedInSecond, locatedStart, locatedLength}
-use Rattle.model.specs.Compiling.{compileOutcome, outcomeAnswer}
 use Rattle.model.specs.declared.answers.Compiled.{Compiled}
 use Rattle.model.specs.declared.answers.Merged.{Merged}
 use Rattle.model.specs.declared.answers.Written.{Written}
 use Rattle.model.specs.declared.answers.Counted.{Counted}
 use Rattle.model.specs.declared.answers.Located.{Located}
-use Rattle.tables.specs.Layout.{tableLength}
 
 -- number + 256 × place
 unfoldable pub compiledWord : Compiled → ℕ
@@ -32,7 +27,3 @@ countedWord a = countedNumber a + 256 * countedCount a
 -- number + 256 × (0 first, 1 second text) + 65,536 × start + 2^32 × length
 unfoldable pub locatedWord : Located → ℕ
 locatedWord a = locatedNumber a + 256 * cond (locatedInSecond a) 1 0 + 65536 * locatedStart a + 4294967296 * locatedLength a
-
--- what the compiler answers for a text and a lent table
-abbrev pub compileAnswer : (text table : List ℕ) → Compiled
-compileAnswer text table = outcomeAnswer (compileOutcome (ltb (length table) tableLength) text)

@@ -6,13 +6,13 @@ mod state;
 ghost use mathlib.Core.Path.{_≡_};
 ghost use Rattle.tables.specs.Layout.{tableLength};
 ghost use Rattle.keyboard.specs.Maps.{lentSetting};
-ghost use Rattle.compiler.specs.Compile.{compiledBytes};
+ghost use Rattle.compiler.specs.Compile.{compileAnswer, compiledBytes};
 ghost use Rattle.merger.specs.Merge.{mergeAnswer, mergedBytes};
 ghost use Rattle.printer.specs.Write.{written, writtenBytes};
 ghost use Rattle.calls.specs.Answers.{productionsAnswer, callsAnswer, parametersAnswer, nameAnswer, parameterAnswer};
 ghost use Rattle.capi.specs.State.{stateLength};
 ghost use Rattle.capi.specs.Match.{freshNumber, freshBytes, matchedWord, matchedOn, stateLeft};
-ghost use Rattle.capi.specs.Answers.{compileAnswer, compiledWord, mergedWord, writtenWord, countedWord, locatedWord};
+ghost use Rattle.capi.specs.Answers.{compiledWord, mergedWord, writtenWord, countedWord, locatedWord};
 
 // ---- Lengths
 

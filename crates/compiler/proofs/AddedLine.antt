@@ -12,9 +12,10 @@ use Rattle.model.specs.Calls.{WrittenCall, CallsRead, calls, rightSide}
 use Rattle.model.specs.Compiling.{passesLimit, withCalls, withEvents, lineRead, EventsJudged, keep, judgedAll, callOf, LineOutcome, add, lineJudged, lineFrom, lineOutcome}
 use Rattle.model.specs.Tables.{Call, Production}
 use Rattle.model.specs.declared.events.KeptEvent.{KeptEvent}
-use Rattle.scanner.specs.Spans.{eventsIn}
-use Rattle.scanner.specs.Sides.{parameterNumber, leftOf, callsIn}
-use Rattle.scanner.proofs.Left.{LeftIn, left-in}
+use Rattle.event_scanner.specs.Spans.{eventsIn}
+use Rattle.event_scanner.specs.LeftSide.{leftOf}
+use Rattle.call_scanner.specs.RightSide.{parameterNumber, callsIn}
+use Rattle.event_scanner.proofs.LeftSide.{LeftIn, left-in}
 use Rattle.lines.specs.Totals.{totalsOf, lineHeld}
 use Rattle.lines.specs.Line.{callsFound, callsStart}
 use Rattle.tables.specs.Layout as layout

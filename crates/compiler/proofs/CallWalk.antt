@@ -11,10 +11,10 @@ use Rattle.model.specs.Compiling.{inText, callOf}
 use Rattle.model.specs.declared.scan.Span.{Span}
 use Rattle.model.specs.declared.scan.ParameterRead.{ParameterRead}
 use Rattle.model.specs.declared.scan.CallRead.{CallRead}
-use Rattle.scanner.specs.declared.sides.CallSpans.{CallSpans}
-use Rattle.scanner.specs.Sides.{parametersCounted, callCounted, callSpans, parameterNumber, callsIn}
+use Rattle.call_scanner.specs.declared.right.CallSpans.{CallSpans}
+use Rattle.call_scanner.specs.RightSide.{parametersCounted, callCounted, callSpans, parameterNumber, callsIn}
 use Rattle.scanner.proofs.Ranges.{ParameterIn, parameter-in, CallIn, call-in}
-use Rattle.scanner.proofs.Right.{parameters-step, calls-step, ParametersIn, parameters-at-in}
+use Rattle.call_scanner.proofs.RightSide.{parameters-step, calls-step, ParametersIn, parameters-at-in}
 use Rattle.tables.specs.Writing.{putParameter, putCall}
 use Rattle.compiler.specs.Puts.{putParameters, putWhole, putCalls}
 use Rattle.compiler.specs.Reads.{ParametersFit, spansIn, CallsFit}

@@ -6,11 +6,11 @@ use mathlib.Core.List.{List, [], _∷_}
 use lib.ListN.{length}
 use Rattle.model.specs.Events.{event, EventsRead, events, keysFrom, eventsAt}
 use Rattle.model.specs.Judging.{judged, judgedWritten}
-use Rattle.scanner.specs.declared.events.EventSpans.{EventSpans}
-use Rattle.scanner.specs.declared.events.EventRead.{EventRead}
-use Rattle.scanner.specs.Spans.{spansAt, eventsIn, readOf}
-use Rattle.scanner.proofs.EventRanges.{EventIn, spans-in}
-use Rattle.scanner.proofs.Walks.{Stands, spans-stand, keyed-good}
+use Rattle.event_scanner.specs.declared.events.EventSpans.{EventSpans}
+use Rattle.event_scanner.specs.declared.events.EventRead.{EventRead}
+use Rattle.event_scanner.specs.Spans.{spansAt, eventsIn, readOf}
+use Rattle.event_scanner.proofs.EventRanges.{EventIn, spans-in}
+use Rattle.event_scanner.proofs.Walks.{Stands, spans-stand, keyed-good}
 use Rattle.judge.specs.Spans.{writtenIn, SpansIn}
 use Rattle.judge.proofs.SpanRanges.{spans-within}
 use Rattle.compiler.specs.Puts.{putJudged, putWritten}

@@ -9,11 +9,11 @@ use Rattle.model.specs.Events.{WrittenEvent, key, KeyChar, EventsRead, events, 
 use Rattle.model.specs.Judging.{judged, judgedMark}
 use Rattle.model.specs.declared.scan.KeyRead.{KeyRead}
 use Rattle.model.specs.declared.scan.AfterEvent.{AfterEvent}
-use Rattle.scanner.specs.Spans.{eventsIn}
+use Rattle.event_scanner.specs.Spans.{eventsIn}
 use Rattle.scanner.proofs.Ranges.{KeyIn, key-in, AfterIn, after-in}
-use Rattle.scanner.proofs.EventRanges.{EventsIn, events-in}
-use Rattle.scanner.proofs.KeyCounts.{keys-step}
-use Rattle.scanner.proofs.Walks.{events-step}
+use Rattle.event_scanner.proofs.EventRanges.{EventsIn, events-in}
+use Rattle.event_scanner.proofs.KeyCounts.{keys-step}
+use Rattle.event_scanner.proofs.Walks.{events-step}
 use Rattle.compiler.specs.Puts.{putJudged, putWritten}
 use Rattle.compiler.specs.Reads.{EventsFit, walkOver}
 use Rattle.compiler.specs.declared.events.Walk.{Walk}

@@ -8,18 +8,36 @@ use lib.Dec.{ltb}
 use lib.ListN.{length, drop}
 use borrow.Author.Tests.{le-ltb, lt-ltb}
 use Rattle.words.specs.Words.{cleared}
-use Rattle.model.specs.Numbers.{shortBuffer, longText, badByte}
+use Rattle.model.specs.Numbers.{shortBuffer, longText, badByte, compiledNumber, compiledPlace}
 use Rattle.model.specs.Bytes.{firstBadByte, runEnd, skip}
 use Rattle.model.specs.Lines.{lineEnd, lineAt, isBlankLine, directiveOf, directiveAt}
 use Rattle.model.specs.Tables.{Table, emptyTable}
-use Rattle.model.specs.Compiling.{Outcome, accepted, refused, afterBytes, linesFrom, linesOf, compiled, compileOutcome}
+use Rattle.model.specs.Compiling.{Outcome, accepted, refused, afterBytes, linesFrom, linesOf, compiled, compileOutcome, outcomeAnswer}
+use Rattle.model.specs.declared.answers.Compiled.{Compiled}
 use Rattle.tables.specs.Layout.{tableLength, encode}
 use Rattle.tables.specs.Reading.{decode}
 use Rattle.tables.specs.Whole.{whole}
 use Rattle.tables.proofs.Theorems.{encode-empty}
 use Rattle.tables.proofs.CompiledFits.{compiled-whole, compiled-decode}
-use Rattle.compiler.specs.Compile.{imageOf, compiledBytes}
+use Rattle.compiler.specs.Compile.{lentOutcome, compileAnswer, outcomeNumber, compileNumber, outcomePlace, compilePlace, imageOf, compiledBytes}
 use Rattle.compiler.specs.Theorems.{AcceptedIsWhole, EmptyIsZero}
+
+-- ---- The clauses of the contract
+
+number-is : (o : Outcome) → compiledNumber (outcomeAnswer o) ≡ outcomeNumber o
+number-is (accepted t) = refl
+number-is (refused n p) = refl
+
+place-is : (o : Outcome) → compiledPlace (outcomeAnswer o) ≡ outcomePlace o
+place-is (accepted t) = refl
+place-is (refused n p) = refl
+
+-- all of them, from the answer and the bytes
+pub answered : (text out new : List ℕ) (r : Compiled) → r ≡ compileAnswer text out → new ≡ compiledBytes text out
+    → (r ≡ compileAnswer text out)
+    × ((new ≡ compiledBytes text out) × ((compiledNumber r ≡ compileNumber text out) × (compiledPlace r ≡ compilePlace text out)))
+answered text out new r a b =
+    (a, (b, (ap compiledNumber a ∙ number-is (lentOutcome text out), ap compiledPlace a ∙ place-is (lentOutcome text out))))
 
 -- ---- Number 1
 

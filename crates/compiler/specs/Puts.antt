@@ -11,8 +11,8 @@ use Rattle.model.specs.Tables.{Call}
 use Rattle.model.specs.declared.scan.Span.{Span}
 use Rattle.model.specs.declared.answers.Judged.{Judged}
 use Rattle.model.specs.declared.events.Directive.{Directive}
-use Rattle.scanner.specs.Spans.{eventsIn}
-use Rattle.scanner.specs.Sides.{callsIn}
+use Rattle.event_scanner.specs.Spans.{eventsIn}
+use Rattle.call_scanner.specs.RightSide.{callsIn}
 use Rattle.lines.specs.declared.totals.Totals.{Totals}
 use Rattle.lines.specs.declared.totals.Line.{Line}
 use Rattle.tables.specs.Writing.{putEvent, putCall, putParameter, putProduction, putTexts, putCounts}

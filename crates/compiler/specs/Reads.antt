@@ -6,7 +6,7 @@ use Rattle.model.specs.Lists.{inAll}
 use Rattle.model.specs.Events.{EventsRead, events, leftSide}
 use Rattle.model.specs.Calls.{Parameters, parameters, CallsRead, calls, rightSide}
 use Rattle.model.specs.declared.scan.Span.{Span}
-use Rattle.scanner.specs.Sides.{parameterNumber}
+use Rattle.call_scanner.specs.RightSide.{parameterNumber}
 use Rattle.lines.specs.declared.totals.Totals.{Totals}
 use Rattle.lines.specs.declared.totals.Line.{Line}
 use Rattle.compiler.specs.declared.events.Walk.{Walk}

@@ -1,11 +1,11 @@
 // The calls of a line that was judged, and their parameters, written into the table: its right side is walked again.
+use call_scanner::calls::parameter_at;
+use call_scanner::right::CallSpans;
+use call_scanner::right::ParametersOpen;
+use call_scanner::right::open_parameters;
+use call_scanner::right::read_call;
 use model::scan::ParameterRead;
 use model::scan::Span;
-use scanner::calls::parameter_at;
-use scanner::sides::CallSpans;
-use scanner::sides::ParametersOpen;
-use scanner::sides::open_parameters;
-use scanner::sides::read_call;
 use tables::write::put_call;
 use tables::write::put_parameter;
 ghost use mathlib.Core.Path.{_≡_};
@@ -15,7 +15,7 @@ ghost use Prim.Native.Nat.{_+_, _-_, _≤_, _<_};
 ghost use lib.ListN.{length};
 ghost use Rattle.model.specs.Calls.{span, parametersFrom, parametersAt, rightSide};
 ghost use Rattle.model.specs.Compiling.{inText, callOf};
-ghost use Rattle.scanner.specs.Sides.{callsIn};
+ghost use Rattle.call_scanner.specs.RightSide.{callsIn};
 ghost use Rattle.tables.specs.Writing.{putParameter, putCall};
 ghost use Rattle.compiler.specs.Puts.{putParameters, putCalls};
 ghost use Rattle.compiler.specs.Reads.{ParametersFit, spansIn, CallsFit};

@@ -1,21 +1,21 @@
 // The events of a line that was judged, written into the table: its left side is walked again.
+use event_scanner::events::EventRead;
+use event_scanner::events::EventSpans;
+use event_scanner::events::read_event;
+use event_scanner::keys::key_at;
+use event_scanner::types::after_event_at;
 use judge::events::judge_key;
 use judge::spans::judge_event;
 use model::answers::Judged;
 use model::scan::AfterEvent;
 use model::scan::KeyRead;
-use scanner::events::EventRead;
-use scanner::events::EventSpans;
-use scanner::events::read_event;
-use scanner::keys::key_at;
-use scanner::types::after_event_at;
 use tables::write::put_event;
 ghost use mathlib.Core.Path.{_≡_};
 ghost use Prim.Native.Nat.{_+_, _≤_, _<_};
 ghost use lib.ListN.{length};
 ghost use Rattle.model.specs.Events.{keysFrom, eventsAt, leftSide};
 ghost use Rattle.model.specs.Judging.{judgedWritten};
-ghost use Rattle.scanner.specs.Spans.{eventsIn};
+ghost use Rattle.event_scanner.specs.Spans.{eventsIn};
 ghost use Rattle.judge.specs.Spans.{writtenIn, SpansIn};
 ghost use Rattle.compiler.specs.Puts.{putJudged, putWritten};
 ghost use Rattle.compiler.specs.Reads.{EventsFit, walkOver};

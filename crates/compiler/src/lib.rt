@@ -11,16 +11,15 @@ use scanner::lines::BadByte;
 use scanner::lines::first_bad_byte;
 use tables::TABLE_LENGTH;
 ghost use mathlib.Core.Path.{_≡_};
-ghost use lib.Dec.{ltb};
-ghost use lib.ListN.{length};
-ghost use Rattle.model.specs.Compiling.{compileOutcome, outcomeAnswer};
-ghost use Rattle.tables.specs.Layout.{tableLength};
-ghost use Rattle.compiler.specs.Compile.{compiledBytes};
+ghost use Rattle.model.specs.Numbers.{compiledNumber, compiledPlace};
+ghost use Rattle.compiler.specs.Compile.{compileAnswer, compileNumber, compilePlace, compiledBytes};
 
 // Compiles a text into a table, the first `TABLE_LENGTH` bytes of the buffer.
 pub fn compile(text: &[u8], table: &mut [u8]) -> Compiled
-    ensures { λ r. ⌜ (r ≡ outcomeAnswer (compileOutcome (ltb (length (now (table .entry))) tableLength) (now (text .entry))))
-        × (now (table .exit) ≡ compiledBytes (now (text .entry)) (now (table .entry))) ⌝ }
+    ensures answer { λ r. ⌜ r ≡ compileAnswer (now (text .entry)) (now (table .entry)) ⌝ }
+    ensures bytes { λ r. ⌜ now (table .exit) ≡ compiledBytes (now (text .entry)) (now (table .entry)) ⌝ }
+    ensures number { λ r. ⌜ compiledNumber r ≡ compileNumber (now (text .entry)) (now (table .entry)) ⌝ }
+    ensures place { λ r. ⌜ compiledPlace r ≡ compilePlace (now (text .entry)) (now (table .entry)) ⌝ }
 {
     if table.len() < TABLE_LENGTH {
         return Compiled::Refused {

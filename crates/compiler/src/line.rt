@@ -6,15 +6,15 @@ use lines::line::judge_line;
 use lines::totals::Line;
 use lines::totals::Totals;
 use lines::totals::with_line;
+use lookup::FirstLine;
 use model::events::Directive;
-use names::FirstLine;
 use scanner::lines::is_blank_line;
 use tables::write::put_production;
 ghost use mathlib.Core.Path.{_≡_};
 ghost use Prim.Native.Nat.{_+_, _≤_};
 ghost use lib.ListN.{length};
 ghost use Rattle.model.specs.Lines.{lineEnd, lineAt, directiveAt};
-ghost use Rattle.names.specs.Find.{directiveGiven};
+ghost use Rattle.lookup.specs.Find.{directiveGiven};
 ghost use Rattle.compiler.specs.Puts.{putLine};
 ghost use Rattle.compiler.specs.Reads.{LineFits};
 ghost use Rattle.compiler.specs.Progress.{Underway, plainDone, plainHeld, lineDone, lineHeld};
@@ -38,7 +38,7 @@ pub fn directive_at(text: &[u8], at: usize, end: usize) -> FirstLine
     ensures { λ r. ⌜ directiveGiven r ≡ directiveAt (now (text .entry)) at ⌝ }
 {
     if at == 0 {
-        return names::directive_of(&text[at..end]);
+        return lookup::directive_of(&text[at..end]);
     }
     FirstLine::Absent
 }

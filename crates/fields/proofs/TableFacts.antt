@@ -13,14 +13,14 @@ use Rattle.words.proofs.Bools.{and-left}
 use Rattle.model.specs.Compiling.{passesLimit}
 use Rattle.tables.specs.Layout.{codesAt, countsAt, setsAt, clearsAt, flagsAt, lowsAt, highsAt, tableLength}
 use Rattle.tables.specs.Reading.{productionTotal, eventTotal, productionEvents, firstEvent, isFlag, eventFromWords, eventEntry, decode}
-use Rattle.tables.specs.Checks.{eventOk}
+use Rattle.event_check.specs.Events.{eventOk}
 use Rattle.tables.specs.Whole.{whole}
 use Rattle.fields.specs.Fields.{flagsIn}
-use Rattle.tables.proofs.EventWords.{EventFacts, event-facts}
-use Rattle.tables.proofs.CheckFacts.{CheckFacts, events-within}
+use Rattle.event_check.proofs.EventTests.{EventFacts, event-facts}
+use Rattle.table_check.proofs.CheckFacts.{CheckFacts, events-within}
 use Rattle.tables.proofs.Facts.{fit-facts}
 use Rattle.tables.proofs.Theorems.{whole-holds}
-use Rattle.tables.proofs.Exact.{whole-facts}
+use Rattle.table_check.proofs.Exact.{whole-facts}
 
 pub record EntryFacts (l : List ℕ) (i : ℕ) : Type 0 where
   pub codeLow : 2 ≤ eventEntry l i .code

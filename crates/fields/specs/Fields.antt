@@ -1,4 +1,4 @@
--- Words of event i of a table that its other definitions read as parts.
+-- What a table holds of its event i in words that are read as a whole: the flags, and the value of the detail.
 use Prim.Native.Nat.{ℕ, _+_, _*_}
 use mathlib.Core.List.{List}
 use Rattle.words.specs.Words.{wordAt}

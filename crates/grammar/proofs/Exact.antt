@@ -1,7 +1,7 @@
 -- Demand 2, as specs/Exact states it.
 use Prim.Native.Nat.{ℕ, _+_, _-_}
 use native.Mathlib.Omega.{arith}
-use mathlib.Core.Path.{_≡_, sym, ap, _∙_}
+use mathlib.Core.Path.{_≡_, refl, sym, ap, _∙_}
 use mathlib.Core.List.{List, _++_}
 use lib.ListN.{length}
 use lib.Seq.{drop-append-seam, take-append-seam}
@@ -10,7 +10,7 @@ use Rattle.model.specs.Lists.{part}
 use Rattle.model.specs.Events.{WrittenEvent}
 use Rattle.model.specs.Calls.{WrittenCall}
 use Rattle.model.specs.Tables as Tables
-use Rattle.model.specs.Compiling.{LineRead, lineRead, Outcome, accepted, refused, tableOf, compiled}
+use Rattle.model.specs.Compiling.{LineRead, lineRead, Outcome, accepted, refused, tableOf, outOfFuel, compiled}
 use Rattle.model.specs.declared.scan.Span.{Span}
 use Rattle.grammar.specs.Tokens.{Stands}
 use Rattle.grammar.specs.Productions.{DerivesProduction}
@@ -18,13 +18,13 @@ use Rattle.grammar.specs.Texts.{startInText}
 use Rattle.grammar.specs.Compiling.{Compiles}
 use Rattle.grammar.specs.Exact.{Accepts, FirstNotDerived, Exact}
 use Rattle.grammar.proofs.Productions.{LineView, line-sound, line-complete}
-use Rattle.grammar.proofs.Kept.{refused-not-four}
+use Rattle.grammar.proofs.Kept.{refused-not}
 use Rattle.grammar.proofs.Texts.{sound, complete}
 use Rattle.grammar.proofs.OneReading.{one-line, one-text}
 
 -- ---- A line
 
-production-of :
+pub production-of :
     (l : List ℕ) (es : List WrittenEvent) (cs : List WrittenCall) (x : LineRead) → LineView l x → x ≡ LineRead.production es cs → DerivesProduction l es cs
 production-of l es cs x LineView.broken e = let z : _≡_ {A = ℕ} 0 1 = cc in absurd (omega arith)
 production-of l es cs x (LineView.production {es = fs} {cs = ds} d) e =
@@ -63,10 +63,19 @@ not-grammar-of text place o (Compiles.notGrammar {l = l} {w = w} {r = r} {d = d}
       starts = i;
     }
 not-grammar-of text place o (Compiles.refusedEvent {n = n} al u c y r) e =
-    let i : n ≡ Numbers.notGrammar = cc in absurd (refused-not-four r i)
+    let i : n ≡ Numbers.notGrammar = cc in absurd (refused-not Numbers.notGrammar refl r i)
 not-grammar-of text place o (Compiles.pastLimit al u c y k f) e =
     let z : Numbers.pastLimit ≡ Numbers.notGrammar = cc in absurd (omega arith)
 not-grammar-of text place o (Compiles.accept al u) e = let z : _≡_ {A = ℕ} 0 1 = cc in absurd (omega arith)
+
+never-out : (text : List ℕ) (place : ℕ) (o : Outcome) → Compiles text o → o ≡ outOfFuel place → ⊥
+never-out text place o (Compiles.longText h) e = let z : Numbers.longText ≡ Numbers.shortBuffer = cc in omega arith
+never-out text place o (Compiles.badByte h run) e = let z : Numbers.badByte ≡ Numbers.shortBuffer = cc in omega arith
+never-out text place o (Compiles.notGrammar al u c n) e = let z : Numbers.notGrammar ≡ Numbers.shortBuffer = cc in omega arith
+never-out text place o (Compiles.refusedEvent {n = n} al u c y r) e =
+    let i : n ≡ Numbers.shortBuffer = cc in refused-not Numbers.shortBuffer refl r i
+never-out text place o (Compiles.pastLimit al u c y k f) e = let z : Numbers.pastLimit ≡ Numbers.shortBuffer = cc in omega arith
+never-out text place o (Compiles.accept al u) e = let z : _≡_ {A = ℕ} 0 1 = cc in omega arith
 
 -- ---- The bytes of a span
 
@@ -95,4 +104,5 @@ exact =
             ∙ ap (refused Numbers.notGrammar) (sym (a .starts)),
       );
       parts = parts-hold;
+      enough = λ text place e. never-out text place (compiled text) (sound text) e;
     }

@@ -10,9 +10,10 @@ use Rattle.model.specs.Events.{keysymFrom, nameFrom, modifierNameAt, modifierFr
 use Rattle.model.specs.Calls.{parameterEnd, quotedFrom, unquotedFrom, parameterFrom, parameterAt, parametersFrom, parametersPast, parametersAt, callNameFrom, callFrom, callAt, callsFrom, rightSide}
 use Rattle.model.specs.Compiling.{LineRead, lineRead}
 use Rattle.grammar.specs.Bytes.{lineByte}
-use Rattle.grammar.specs.Examples.{Derivable, Every, derivable, underivable, Examples}
+use Rattle.grammar.specs.Examples.{Derivable, Every, derivable, underivable, exampleLine, exampleEvents, exampleCalls, Examples}
 use Rattle.grammar.proofs.Places.{and-left, and-right}
 use Rattle.grammar.proofs.Productions.{LineView, line-sound, line-complete}
+use Rattle.grammar.proofs.Exact.{production-of}
 
 abbrev isProduction : LineRead → Bool
 isProduction LineRead.broken = false
@@ -62,5 +63,18 @@ underivable-unread : noneRead underivable ≡ true
 unfolding underivable isBlank isDigit isLetter belongs runEnd skip keysymFrom nameFrom modifierNameAt modifierFrom modifierAt modifiersFrom leadColon leadFrom leadAt listOf typeFrom typeRun typeName typeAt countClose countPlus countRun countDigits countFrom countAt plainEventAt markedKey keyAt keysFrom keySequenceAt eventsFrom eventsAt afterEventFrom afterEventAt leftFrom leftSide parameterEnd quotedFrom unquotedFrom parameterFrom parameterAt parametersFrom parametersPast parametersAt callNameFrom callFrom callAt callsFrom rightSide lineRead
 underivable-unread = refl
 
+example-clean : all lineByte exampleLine ≡ true
+unfolding exampleLine
+example-clean = refl
+
+example-read : lineRead exampleLine ≡ LineRead.production exampleEvents exampleCalls
+unfolding exampleLine isBlank isDigit isLetter belongs runEnd skip keysymFrom nameFrom modifierNameAt modifierFrom modifierAt modifiersFrom leadColon leadFrom leadAt listOf typeFrom typeRun typeName typeAt countClose countPlus countRun countDigits countFrom countAt plainEventAt markedKey keyAt keysFrom keySequenceAt eventsFrom eventsAt afterEventFrom afterEventAt leftFrom leftSide parameterEnd quotedFrom unquotedFrom parameterFrom parameterAt parametersFrom parametersPast parametersAt callNameFrom callFrom callAt callsFrom rightSide lineRead
+example-read = refl
+
 pub examples : Examples
-examples = record { derived = every-read derivable derivable-read; underived = every-unread underivable underivable-unread }
+examples =
+    record {
+      derived = every-read derivable derivable-read;
+      underived = every-unread underivable underivable-unread;
+      worked = production-of exampleLine exampleEvents exampleCalls (lineRead exampleLine) (line-sound exampleLine example-clean) example-read;
+    }

@@ -8,6 +8,7 @@ use lib.Dec.{eqb, ltb}
 use lib.ListN.{length, length-append}
 use borrow.Author.Tests.{ltb-true, lt-ltb}
 use Rattle.model.specs.Lists.{any, inAll}
+use Rattle.model.specs.Bytes.{inRange}
 use Rattle.model.specs.Numbers as Numbers
 use Rattle.model.specs.Limits.{productionLimit, eventLimit, callLimit, parameterLimit}
 use Rattle.model.specs.Events.{Written, WrittenEvent}
@@ -53,51 +54,53 @@ unfolding judgedAll
 judged-view [] = kept Grammar.EventsKept.nothing
 judged-view (e ∷ es) = judged-next e es (judgedAll es) (judged-view es) (judged e) refl
 
--- ---- No check on an event gives number 4
+-- ---- No check on an event gives a number of 1..4
 
-abbrev isFour : Judged → Bool
-isFour (Judged.Keep k) = false
-isFour (Judged.Refuse n) = eqb n Numbers.notGrammar
+abbrev isEarly : ℕ → Bool
+isEarly n = inRange 1 n 4
 
-unless-not-four : (n : ℕ) (k : KeptEvent) → eqb n Numbers.notGrammar ≡ false → isFour (keepUnless n k) ≡ false
-unless-not-four n k e = go (eqb n 0) refl
+unless-late : (n : ℕ) (k : KeptEvent) → isEarly n ≡ false → isEarly (Numbers.judgedNumber (keepUnless n k)) ≡ false
+unless-late n k e = go (eqb n 0) refl
   where
-    go : (t : Bool) → eqb n 0 ≡ t → isFour (keepUnless n k) ≡ false
+    go : (t : Bool) → eqb n 0 ≡ t → isEarly (Numbers.judgedNumber (keepUnless n k)) ≡ false
     go true q = rw q
     go false q = rw q e
 
-order-not-four : (a b c d e f : Bool) → eqb (Numbers.eventOrder a b c d e f) Numbers.notGrammar ≡ false
-order-not-four true b c d e f = refl
-order-not-four false true c d e f = refl
-order-not-four false false true d e f = refl
-order-not-four false false false true e f = refl
-order-not-four false false false false true f = refl
-order-not-four false false false false false true = refl
-order-not-four false false false false false false = refl
+order-late : (a b c d e f : Bool) → isEarly (Numbers.eventOrder a b c d e f) ≡ false
+order-late true b c d e f = refl
+order-late false true c d e f = refl
+order-late false false true d e f = refl
+order-late false false false true e f = refl
+order-late false false false false true f = refl
+order-late false false false false false true = refl
+order-late false false false false false false = refl
 
-named-not-four : (w : Written) (t : TypeName) → isFour (judgedAs w t) ≡ false
+named-late : (w : Written) (t : TypeName) → isEarly (Numbers.judgedNumber (judgedAs w t)) ≡ false
 unfolding eventNumber
-named-not-four w (TypeName.Known ty) =
-    unless-not-four (eventNumber w ty) (keptEvent w ty)
-    (order-not-four (isUnknown w ty) (isOutOfRange w ty) (isUnbuilt w ty) (isListNotTaken w ty) (isColonMisplaced w ty)
+named-late w (TypeName.Known ty) =
+    unless-late (eventNumber w ty) (keptEvent w ty)
+    (order-late (isUnknown w ty) (isOutOfRange w ty) (isUnbuilt w ty) (isListNotTaken w ty) (isColonMisplaced w ty)
     (isImpossible (keptEvent w ty)))
-named-not-four w TypeName.Unknown = refl
+named-late w TypeName.Unknown = refl
 
-mark-not-four : (m : KeyMark) (b : ℕ) → isFour (judgedMark m b) ≡ false
-mark-not-four KeyMark.Plain b = refl
-mark-not-four KeyMark.Control b = refl
-mark-not-four KeyMark.Quoted b = refl
-mark-not-four KeyMark.Meta b = refl
+mark-late : (m : KeyMark) (b : ℕ) → isEarly (Numbers.judgedNumber (judgedMark m b)) ≡ false
+mark-late KeyMark.Plain b = refl
+mark-late KeyMark.Control b = refl
+mark-late KeyMark.Quoted b = refl
+mark-late KeyMark.Meta b = refl
 
-judged-not-four : (e : WrittenEvent) → isFour (judged e) ≡ false
+judged-late : (e : WrittenEvent) → isEarly (Numbers.judgedNumber (judged e)) ≡ false
 unfolding judged judgedWritten
-judged-not-four (WrittenEvent.event w) = named-not-four w (typeNamed (w .typeName))
-judged-not-four (WrittenEvent.key k) = mark-not-four (k .mark) (k .byte)
+judged-late (WrittenEvent.event w) = named-late w (typeNamed (w .typeName))
+judged-late (WrittenEvent.key k) = mark-late (k .mark) (k .byte)
 
-pub refused-not-four : {es : List WrittenEvent} {n : ℕ} → Grammar.EventsRefused es n → n ≡ Numbers.notGrammar → ⊥
-refused-not-four (Grammar.EventsRefused.here {e = e} q) f =
-    let z : true ≡ false = ap isFour (ap Judged.Refuse (sym f) ∙ sym q) ∙ judged-not-four e in absurd (false≢true (sym z))
-refused-not-four (Grammar.EventsRefused.later q d) f = refused-not-four d f
+refused-late : {es : List WrittenEvent} {n : ℕ} → Grammar.EventsRefused es n → isEarly n ≡ false
+refused-late (Grammar.EventsRefused.here {e = e} q) =
+    ap (λ (j : Judged). isEarly (Numbers.judgedNumber j)) (sym q) ∙ judged-late e
+refused-late (Grammar.EventsRefused.later q d) = refused-late d
+
+pub refused-not : {es : List WrittenEvent} {n : ℕ} (m : ℕ) → isEarly m ≡ true → Grammar.EventsRefused es n → n ≡ m → ⊥
+refused-not m h d f = false≢true (sym (refused-late d) ∙ ap isEarly f ∙ h)
 
 -- ---- Limits
 

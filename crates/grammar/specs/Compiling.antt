@@ -1,4 +1,5 @@
 -- Document 01, "Numbers handed back": what a text compiles to, as a relation over what the grammar derives from it.
+-- Exact ties it to model's `compiled`, whose recursion with fuel need then not be believed.
 use Prim.Native.Nat.{ℕ, _≤_, _<_}
 use mathlib.Core.Path.{_≡_}
 use mathlib.Core.Bool.{true, false}

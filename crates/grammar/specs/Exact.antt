@@ -1,5 +1,6 @@
 -- Demand 2: texts are accepted exactly by the syntax of Appendix B as document 01 narrows it, each with one reading.
--- This is about the definitions of the crate model, which the compiler's contract cites. proofs/Exact shows it.
+-- This is about the definitions of the crate model, which the compiler's contract cites. proofs/Exact shows it. So a reader who believes
+-- the relation `Compiles` and the statements here need not believe the recursion with fuel in model's Events, Calls and Compiling.
 use Prim.Native.Nat.{ℕ, _+_}
 use mathlib.Core.Path.{_≡_}
 use mathlib.Core.Logic.{_↔_}
@@ -11,7 +12,7 @@ use Rattle.model.specs.Lists.{all, part}
 use Rattle.model.specs.Events.{WrittenEvent}
 use Rattle.model.specs.Calls.{WrittenCall}
 use Rattle.model.specs.Tables as Tables
-use Rattle.model.specs.Compiling.{LineRead, lineRead, Outcome, accepted, refused, tableOf, compiled}
+use Rattle.model.specs.Compiling.{LineRead, lineRead, Outcome, accepted, refused, tableOf, outOfFuel, compiled}
 use Rattle.model.specs.declared.scan.Span.{Span}
 use Rattle.model.specs.declared.events.Directive as Model
 use Rattle.grammar.specs.Bytes.{lineByte}
@@ -59,3 +60,5 @@ pub record Exact : Type 0 where
   pub notGrammar : (text : List ℕ) (place : ℕ) → (compiled text ≡ refused Numbers.notGrammar place) ↔ FirstNotDerived text place
   -- the span of a name or a parameter holds its bytes
   pub parts : (line m w r : List ℕ) (s : Span) → Stands line m w s → m ≡ w ++ r → part line (s .start) (s .start + s .len) ≡ w
+  -- the fuel of model's recursion over the lines suffices: no text comes to what stands where it ends
+  pub enough : (text : List ℕ) (place : ℕ) → compiled text ≡ outOfFuel place → ⊥

@@ -1,10 +1,13 @@
 -- Lines on each side of the points at which document 01 narrows Appendix B. proofs/Examples shows each of them.
 use Prim.Native.Nat.{ℕ}
 use Prim.Native.String.{String}
+use mathlib.Core.Bool.{false}
 use mathlib.Core.List.{List, [], _∷_}
+use mathlib.Core.Option.{none}
 use Rattle.model.specs.Lists.{bytes}
-use Rattle.model.specs.Events.{WrittenEvent}
+use Rattle.model.specs.Events.{Modifier, ModifierList, WrittenEvent}
 use Rattle.model.specs.Calls.{WrittenCall}
+use Rattle.model.specs.declared.scan.KeyMark.{KeyMark}
 use Rattle.grammar.specs.Productions.{DerivesProduction}
 
 -- the grammar derives something from a line
@@ -51,6 +54,24 @@ underivable =
     ∷ "#replace" ∷ " #replace"
     ∷ []
 
+-- the example at the head of Productions: its line, and what is derived from it
+unfoldable pub exampleLine : List ℕ
+exampleLine = bytes "s<Key>a, \"^b\": f(x) g()"
+
+abbrev pub exampleEvents : List WrittenEvent
+exampleEvents =
+    WrittenEvent.event
+    (record { list = ModifierList.listed false false (Modifier.name false (bytes "s") ∷ []); typeName = bytes "Key"; count = none; detail = bytes "a" })
+    ∷ WrittenEvent.key (record { mark = KeyMark.Control; byte = 98 })
+    ∷ []
+
+abbrev pub exampleCalls : List WrittenCall
+exampleCalls =
+    record { name = record { start = 15; len = 1 }; parameters = record { start = 17; len = 1 } ∷ [] }
+    ∷ record { name = record { start = 20; len = 1 }; parameters = [] }
+    ∷ []
+
 pub record Examples : Type 0 where
   pub derived : Every Derivable derivable
   pub underived : Every (λ l. Derivable l → ⊥) underivable
+  pub worked : DerivesProduction exampleLine exampleEvents exampleCalls

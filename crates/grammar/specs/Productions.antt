@@ -1,4 +1,18 @@
 -- Appendix B, lhs and production: one line.
+--
+-- One line and what is derived from it (Examples shows it):
+--
+--     s<Key>a, "^b": f(x) g()
+--     0     6  9     15   20       places in the line
+--
+--     Lhs     Item, event     s<Key>a    the event { list = [s]; typeName = Key; count = none; detail = a }
+--             ","
+--             Item, keyseq    "^b"       the key { mark = Control; byte = b }, one for each character
+--     ":"
+--     Rhs     call            f(x)       the call { name at 15, of length 1; parameters = [at 17, of length 1] }
+--             call            g()        the call { name at 20, of length 1; parameters = [] }
+--
+-- Each symbol takes the bytes from where the one before it ends, with the blanks before it: Lhs leaves `: f(x) g()`, ":" leaves ` f(x) g()`.
 use Prim.Native.Nat.{ℕ}
 use mathlib.Core.List.{List, [], _∷_, _++_}
 use Rattle.model.specs.Events.{Written, WrittenEvent}

@@ -1,5 +1,3 @@
-pub mod Asked
-pub mod Listed
 pub mod Same
 pub mod Parts
 pub mod Detailed

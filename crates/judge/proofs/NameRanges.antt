@@ -21,7 +21,7 @@ use Rattle.model.specs.declared.names.TypeName.{TypeName}
 use Rattle.model.specs.declared.names.ModifierName.{ModifierName}
 use Rattle.model.specs.declared.names.DetailRead.{DetailRead}
 use Rattle.modifiers.proofs.Below.{both-left, both-right}
-use Rattle.judge.specs.Summary.{NameIn, AddedIn}
+use Rattle.list_masks.specs.Summary.{NameIn, AddedIn}
 use Rattle.judge.specs.Ranges.{DetailIn, TypeIn}
 
 module _ {A : Type 0} (passes : A → Bool) where

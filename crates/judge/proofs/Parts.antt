@@ -10,10 +10,10 @@ use Rattle.model.specs.Judging.{addsMeta}
 use Rattle.model.specs.declared.events.KeptEvent.{KeptEvent}
 use Rattle.model.specs.declared.names.EventType.{EventType}
 use Rattle.model.specs.declared.answers.Judged.{Judged}
-use Rattle.judge.specs.declared.lists.ListSummary.{ListSummary}
+use Rattle.list_masks.specs.declared.lists.ListSummary.{ListSummary}
 use Rattle.judge.specs.declared.events.CountSummary.{CountSummary}
 use Rattle.judge.specs.declared.events.DetailSummary.{DetailSummary}
-use Rattle.judge.specs.Summary.{setOf, clearOf, clauseOf}
+use Rattle.list_masks.specs.Summary.{setOf, clearOf, clauseOf}
 use Rattle.judge.specs.Judged.{colonMisplaced, keptParts, partsNumber, judgedParts}
 
 module _ (s : ListSummary) (ty : EventType) (c : CountSummary) (d : DetailSummary) where

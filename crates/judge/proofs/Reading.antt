@@ -9,12 +9,12 @@ use Rattle.model.specs.Lists.{part}
 use Rattle.model.specs.Events.{Modifier, name, keysym, listed, Modifiers, modifiers, oneMore, modifierAt, modifiersNext, modifiersFrom, modifiersAt}
 use Rattle.model.specs.Names.{modifierNamed}
 use Rattle.model.specs.declared.scan.ModifierRead.{ModifierRead}
-use Rattle.scanner.specs.ModifierLists.{modifiersIn}
+use Rattle.list_scanner.specs.ModifierLists.{modifiersIn}
 use Rattle.scanner.proofs.Ranges.{ModifierIn, modifier-in}
-use Rattle.scanner.proofs.ListSteps.{modifiers-step}
-use Rattle.judge.specs.declared.lists.ListSummary.{ListSummary}
-use Rattle.judge.specs.Summary.{summaryOf, withName, withKeysym, SummaryIn}
-use Rattle.judge.proofs.Listed.{summary-name, summary-keysym, summary-in}
+use Rattle.list_scanner.proofs.ListSteps.{modifiers-step}
+use Rattle.list_masks.specs.declared.lists.ListSummary.{ListSummary}
+use Rattle.list_masks.specs.Summary.{summaryOf, withName, withKeysym, SummaryIn}
+use Rattle.list_masks.proofs.Listed.{summary-name, summary-keysym, summary-in}
 
 -- the modifiers of the whole, after those read so far
 abbrev afterAll : List Modifier → Modifiers → List Modifier

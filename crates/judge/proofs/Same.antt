@@ -1,25 +1,27 @@
 -- An event judged by the value of its modifier list is judged as model's `judgedAs` says.
 use Prim.Native.Nat.{ℕ, _<_}
-use mathlib.Core.Path.{_≡_, sym, ap, ap₂, _∙_}
-use mathlib.Core.Bool.{Bool, false, not, _&&_, _||_, and-assoc}
-use lib.Dec.{lit<}
+use mathlib.Core.Path.{_≡_, refl, sym, ap, ap₂, _∙_}
+use mathlib.Core.Bool.{Bool, true, false, not, _&&_, _||_, and-assoc}
+use lib.Dec.{lit<, eqb}
+use borrow.Author.Tests.{eqb-true}
 use Rattle.model.specs.Lists.{any}
-use Rattle.model.specs.Numbers.{eventOrder}
+use Rattle.model.specs.Numbers.{eventOrder, judgedNumber}
 use Rattle.model.specs.Names.{shiftBit, lockBit, typeNamed}
 use Rattle.model.specs.Codes.{isKey}
 use Rattle.model.specs.Events.{ModifierList, Written}
 use Rattle.model.specs.Modifiers.{bit, mask, buttonBits, isShiftOrLock, listsSet, listsClear, has, hasColon, asksOthersClear, asksSet, asksClear, addsBit, addsClause, setMask, clearMask, keepsClause}
-use Rattle.model.specs.Judging.{judgedAs, judgedWritten, keptDetail, countValue, keptEvent, eventNumber, keepUnless, isUnknown, isOutOfRange, isUnbuilt, isListNotTaken, isColonMisplaced, isImpossible}
+use Rattle.model.specs.Judging.{typedNumber, judgedAs, judgedWritten, keptDetail, countValue, keptEvent, eventNumber, keepUnless, isUnknown, isOutOfRange, isUnbuilt, isListNotTaken, isColonMisplaced, isImpossible}
 use Rattle.model.specs.declared.events.KeptEvent.{KeptEvent}
 use Rattle.model.specs.declared.names.Added.{Added}
 use Rattle.model.specs.declared.names.EventType.{EventType}
 use Rattle.model.specs.declared.names.TypeName.{TypeName}
+use Rattle.model.specs.declared.answers.Judged.{Judged}
 use Rattle.modifiers.proofs.Masks.{same-mask, bit-mask}
-use Rattle.judge.specs.declared.lists.ListSummary.{ListSummary}
+use Rattle.list_masks.specs.declared.lists.ListSummary.{ListSummary}
 use Rattle.judge.specs.declared.events.CountSummary.{CountSummary}
 use Rattle.judge.specs.declared.events.DetailSummary.{DetailSummary}
-use Rattle.judge.specs.Summary.{summaryOf, setOf, clearOf, clauseOf}
-use Rattle.judge.specs.Judged.{countSummary, detailSummary, hasStandardBits, colonMisplaced, keptParts, partsNumber, judgedParts, judgedBy}
+use Rattle.list_masks.specs.Summary.{summaryOf, setOf, clearOf, clauseOf}
+use Rattle.judge.specs.Judged.{countSummary, detailSummary, hasStandardBits, colonMisplaced, keptParts, partsNumber, judgedParts}
 
 module _ (list : ModifierList) where
   set-bit : (k : ℕ) → k < 13 → bit k (mask (listsSet list)) ≡ listsSet list k
@@ -106,12 +108,31 @@ module _ (w : Written) (ty : EventType) where
       (λ (a b : Bool). eventOrder (isUnknown w ty) (isOutOfRange w ty) (isUnbuilt w ty) (isListNotTaken w ty) a b)
       colon-same (ap impossible kept-same)
 
-  pub judged-same : judgedBy (summaryOf (w .list)) ty (w .count) (w .detail) ≡ judgedAs w (TypeName.Known ty)
-  unfolding judgedBy judgedParts
+  judged-same : judgedParts (summaryOf (w .list)) ty counted detailed ≡ judgedAs w (TypeName.Known ty)
+  unfolding judgedParts
   judged-same = ap₂ keepUnless number-same kept-same
 
   -- from the values of its parts
   pub judged-from : (s : ListSummary) (c : CountSummary) (d : DetailSummary) → typeNamed (w .typeName) ≡ TypeName.Known ty
       → s ≡ summaryOf (w .list) → c ≡ counted → d ≡ detailed → judgedParts s ty c d ≡ judgedWritten w
-  unfolding judgedBy judgedWritten
+  unfolding judgedWritten
   judged-from s c d e p q r = (λ i. judgedParts (p i) ty (q i) (r i)) ∙ judged-same ∙ sym (ap (judgedAs w) e)
+
+-- ---- The number of what is judged
+
+unless-number : (n : ℕ) (k : KeptEvent) → judgedNumber (keepUnless n k) ≡ n
+unless-number n k = go (eqb n 0) refl
+  where
+    go : (t : Bool) → eqb n 0 ≡ t → judgedNumber (keepUnless n k) ≡ n
+    go true q = rw q (sym (eqb-true n 0 q))
+    go false q = rw q
+
+typed-number : (w : Written) (t : TypeName) → judgedNumber (judgedAs w t) ≡ typedNumber w t
+typed-number w (TypeName.Known ty) = unless-number (eventNumber w ty) (keptEvent w ty)
+typed-number w TypeName.Unknown = refl
+
+-- both clauses of the judge's contract, from the first
+pub with-number : (w : Written) (r : Judged) → r ≡ judgedWritten w
+    → (r ≡ judgedWritten w) × (judgedNumber r ≡ typedNumber w (typeNamed (w .typeName)))
+unfolding judgedWritten
+with-number w r e = (e, ap judgedNumber e ∙ typed-number w (typeNamed (w .typeName)))

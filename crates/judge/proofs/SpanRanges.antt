@@ -11,9 +11,9 @@ use Rattle.model.specs.Bytes.{byteAt}
 use Rattle.model.specs.Judging.{judgedWritten}
 use Rattle.model.specs.declared.events.KeptEvent.{KeptEvent}
 use Rattle.model.specs.declared.answers.Judged.{Judged}
-use Rattle.scanner.specs.declared.events.CountSpan.{CountSpan}
-use Rattle.scanner.specs.declared.events.EventSpans.{EventSpans}
-use Rattle.scanner.proofs.EventRanges as scanner
+use Rattle.event_scanner.specs.declared.events.CountSpan.{CountSpan}
+use Rattle.event_scanner.specs.declared.events.EventSpans.{EventSpans}
+use Rattle.event_scanner.proofs.EventRanges as scanner
 use Rattle.judge.specs.Ranges.{EventIn}
 use Rattle.judge.specs.Spans.{writtenIn, CountSpanIn, SpansIn}
 use Rattle.judge.proofs.EventRanges.{written-in}

@@ -13,10 +13,10 @@ use Rattle.model.specs.declared.events.KeptEvent.{KeptEvent}
 use Rattle.model.specs.declared.names.EventType.{EventType}
 use Rattle.model.specs.declared.names.DetailRead.{DetailRead}
 use Rattle.model.specs.declared.answers.Judged.{Judged}
-use Rattle.judge.specs.declared.lists.ListSummary.{ListSummary}
+use Rattle.list_masks.specs.declared.lists.ListSummary.{ListSummary}
 use Rattle.judge.specs.declared.events.CountSummary.{CountSummary}
 use Rattle.judge.specs.declared.events.DetailSummary.{DetailSummary}
-use Rattle.judge.specs.Summary.{setOf, clearOf, clauseOf}
+use Rattle.list_masks.specs.Summary.{setOf, clearOf, clauseOf}
 
 -- ---- Counts
 
@@ -85,7 +85,3 @@ partsNumber s ty c d =
 
 unfoldable pub judgedParts : ListSummary → EventType → CountSummary → DetailSummary → Judged
 judgedParts s ty c d = keepUnless (partsNumber s ty c d) (keptParts s ty c d)
-
--- an event of a known type
-unfoldable pub judgedBy : ListSummary → EventType → Option Count → List ℕ → Judged
-judgedBy s ty count detail = judgedParts s ty (countSummary (ty .code) count) (detailSummary ty detail)

@@ -1,4 +1,3 @@
-pub mod Summary
 pub mod Judged
 pub mod Ranges
 pub mod Spans

@@ -10,7 +10,7 @@ use Rattle.model.specs.Events.{WrittenEvent, event, key}
 use Rattle.model.specs.declared.events.Detail.{Detail}
 use Rattle.model.specs.declared.events.KeptEvent.{KeptEvent}
 use Rattle.model.specs.declared.names.EventType.{EventType}
-use Rattle.judge.specs.Summary.{AddedIn}
+use Rattle.list_masks.specs.Summary.{AddedIn}
 
 abbrev pub DetailIn : ℕ → Detail → Type 0
 DetailIn limit Detail.Unspecified = Unit

@@ -3,9 +3,9 @@ use Prim.Native.Nat.{ℕ, _≤_}
 use mathlib.Core.Bool.{Bool, cond}
 use mathlib.Core.List.{List}
 use Rattle.model.specs.Events.{ModifierList, noModifier, anyModifier, Written}
-use Rattle.scanner.specs.Spans.{listIn, countIn, partIn}
-use Rattle.scanner.specs.declared.events.CountSpan.{CountSpan}
-use Rattle.scanner.specs.declared.events.EventSpans.{EventSpans}
+use Rattle.event_scanner.specs.Spans.{listIn, countIn, partIn}
+use Rattle.event_scanner.specs.declared.events.CountSpan.{CountSpan}
+use Rattle.event_scanner.specs.declared.events.EventSpans.{EventSpans}
 
 -- `None` or `Any`
 abbrev pub loneListOf : Bool → ModifierList

@@ -1,8 +1,8 @@
 // The checks on one event, in document 01's order, and the event that is kept.
-use crate::lists::ListSummary;
-use crate::lists::clause_of;
-use crate::lists::clear_of;
-use crate::lists::set_of;
+use list_masks::lists::ListSummary;
+use list_masks::lists::clause_of;
+use list_masks::lists::clear_of;
+use list_masks::lists::set_of;
 use model::answers::Judged;
 use model::events::Detail;
 use model::events::KeptEvent;
@@ -19,8 +19,8 @@ ghost use Rattle.model.specs.Modifiers.{addsBit};
 ghost use Rattle.model.specs.Names.{shiftBit};
 ghost use Rattle.model.specs.Judging.{isOneDigit, addsMeta, keyPressOf, judgedMark};
 ghost use Rattle.model.specs.declared.names.Added.{Added};
-ghost use Rattle.judge.specs.Summary.{SummaryIn, AddedIn};
-ghost use Rattle.judge.specs.Judged.{countOf, countSummary, readSummary, detailSummary, hasStandardBits, colonMisplaced, judgedParts, judgedBy};
+ghost use Rattle.list_masks.specs.Summary.{SummaryIn, AddedIn};
+ghost use Rattle.judge.specs.Judged.{countOf, countSummary, readSummary, detailSummary, hasStandardBits, colonMisplaced, judgedParts};
 
 // A written count, or none.
 pub struct CountSummary {
@@ -209,7 +209,7 @@ pub fn detail_of(ty: EventType, word: &[u8]) -> DetailSummary
     }
     match fixed {
         Detail::Value(_) => of_read(DetailRead::Unknown),
-        Detail::Unspecified => of_read(names::detail_named(ty.code, word)),
+        Detail::Unspecified => of_read(lookup::detail_named(ty.code, word)),
     }
 }
 
@@ -269,23 +269,6 @@ pub fn judge_parts(ty: EventType, s: ListSummary, c: CountSummary, d: DetailSumm
         });
     }
     Judged::Refuse(n)
-}
-
-// An event of a known type. Where `counted` is false, no count is written.
-pub fn judge_known(
-    ty: EventType,
-    s: ListSummary,
-    counted: bool,
-    plus: bool,
-    digits: &[u8],
-    detail: &[u8],
-) -> Judged
-    requires { ⌜ SummaryIn s × AddedIn (ty .added) ⌝ }
-    ensures { λ r. ⌜ r ≡ judgedBy s ty (countOf counted plus (now (digits .entry))) (now (detail .entry)) ⌝ }
-{
-    let c = count_of(ty.code, counted, plus, digits);
-    let d = detail_of(ty, detail);
-    judge_parts(ty, s, c, d)
 }
 
 // A character of a key sequence.

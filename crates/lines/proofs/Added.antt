@@ -14,10 +14,10 @@ use Rattle.model.specs.Compiling.{passesLimit, withCalls, withEvents, lineRead,
 use Rattle.model.specs.declared.scan.KeyMark.{KeyMark}
 use Rattle.model.specs.declared.scan.KeyRead.{KeyRead}
 use Rattle.model.specs.declared.scan.AfterEvent.{AfterEvent}
-use Rattle.scanner.specs.declared.events.EventRead.{EventRead}
-use Rattle.scanner.specs.Spans.{spansAt, readOf}
+use Rattle.event_scanner.specs.declared.events.EventRead.{EventRead}
+use Rattle.event_scanner.specs.Spans.{spansAt, readOf}
 use Rattle.scanner.proofs.Ranges.{cond-in}
-use Rattle.scanner.proofs.Meaning.{spans-read}
+use Rattle.event_scanner.proofs.Meaning.{spans-read}
 use Rattle.judge.proofs.LineRanges.{ReadIn, left-written}
 use Rattle.lines.specs.Ranges.{ProductionIn}
 use Rattle.lines.proofs.Verdict.{productionOf}

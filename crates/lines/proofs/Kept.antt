@@ -14,7 +14,7 @@ use Rattle.model.specs.declared.scan.KeyMark.{KeyMark}
 use Rattle.model.specs.declared.scan.AfterEvent.{AfterEvent}
 use Rattle.model.specs.declared.events.KeptEvent.{KeptEvent}
 use Rattle.model.specs.declared.answers.Judged.{Judged}
-use Rattle.scanner.specs.declared.events.EventSpans.{EventSpans}
+use Rattle.event_scanner.specs.declared.events.EventSpans.{EventSpans}
 use Rattle.counts.specs.Elements.{elementCount}
 use Rattle.counts.proofs.Elements.{element-count}
 use Rattle.judge.specs.Spans.{writtenIn}

@@ -15,9 +15,9 @@ use Rattle.model.specs.Counts.{sequence}
 use Rattle.model.specs.Events.{WrittenEvent, EventsRead, events, leftSide}
 use Rattle.model.specs.Calls.{WrittenCall, CallsRead, calls, rightSide}
 use Rattle.model.specs.Compiling.{productionPasses, totalsPass, passesLimit, withCalls, withEvents, lineRead, EventsJudged, keep, judgedAll, callOf, LineOutcome, add, withinLimits, lineJudged, lineFrom, lineOutcome}
-use Rattle.scanner.specs.Sides.{leftOf}
-use Rattle.scanner.proofs.Left.{LeftIn, left-in}
-use Rattle.judge.proofs.Listed.{any-last}
+use Rattle.event_scanner.specs.LeftSide.{leftOf}
+use Rattle.event_scanner.proofs.LeftSide.{LeftIn, left-in}
+use Rattle.list_masks.proofs.Listed.{any-last}
 use Rattle.lines.specs.declared.totals.Line.{Line}
 use Rattle.lines.specs.declared.line.LineJudged.{LineJudged}
 use Rattle.lines.specs.Totals.{totalsOf, lineHeld, withLine, TotalsIn}

@@ -14,16 +14,16 @@ use Rattle.model.specs.declared.scan.TypeRead.{TypeRead}
 use Rattle.model.specs.declared.scan.CountRead.{CountRead}
 use Rattle.model.specs.declared.events.KeptEvent.{KeptEvent}
 use Rattle.model.specs.declared.answers.Judged.{Judged}
-use Rattle.scanner.specs.declared.lists.ListRead.{ListRead}
-use Rattle.scanner.specs.declared.events.Part.{Part}
-use Rattle.scanner.specs.declared.events.ListSpans.{ListSpans}
-use Rattle.scanner.specs.declared.events.EventRead.{EventRead}
-use Rattle.scanner.specs.ModifierLists.{summed, listFrom}
-use Rattle.scanner.specs.Spans.{countSpans, typeSpans, withListRead, listSpans, plainSpans, keyed, keysSpans, keySpans, spansFrom, spansAt, eventsIn, readOf}
+use Rattle.list_scanner.specs.declared.lists.ListRead.{ListRead}
+use Rattle.event_scanner.specs.declared.events.Part.{Part}
+use Rattle.event_scanner.specs.declared.events.ListSpans.{ListSpans}
+use Rattle.event_scanner.specs.declared.events.EventRead.{EventRead}
+use Rattle.list_scanner.specs.ModifierLists.{summed, listFrom}
+use Rattle.event_scanner.specs.Spans.{countSpans, typeSpans, withListRead, listSpans, plainSpans, keyed, keysSpans, keySpans, spansFrom, spansAt, eventsIn, readOf}
 use Rattle.scanner.proofs.Ranges.{cond-in}
-use Rattle.scanner.proofs.Meaning.{spans-read}
-use Rattle.scanner.proofs.KeyCounts.{KeysIn, keys-in}
-use Rattle.scanner.proofs.EventRanges.{EventIn, spans-in}
+use Rattle.event_scanner.proofs.Meaning.{spans-read}
+use Rattle.event_scanner.proofs.KeyCounts.{KeysIn, keys-in}
+use Rattle.event_scanner.proofs.EventRanges.{EventIn, spans-in}
 use Rattle.counts.proofs.Elements.{element-count, count-at-most}
 use Rattle.judge.specs.Ranges as judge
 use Rattle.judge.proofs.EventRanges.{judged-in}

@@ -13,7 +13,7 @@ use Rattle.model.specs.Tables.{Production}
 use Rattle.model.specs.Counts.{elementsOf, elementsAt, expanded, sequence}
 use Rattle.model.specs.Compiling.{productionPasses, totalsPass, passesLimit}
 use Rattle.model.specs.declared.events.KeptEvent.{KeptEvent}
-use Rattle.judge.proofs.Listed.{any-last}
+use Rattle.list_masks.proofs.Listed.{any-last}
 use Rattle.counts.proofs.Elements.{element-count, count-at-least}
 use Rattle.lines.specs.declared.totals.Totals.{Totals}
 use Rattle.lines.specs.Totals.{parametersIn, totalsOf, lineHeld, withLine, TotalsIn}

@@ -15,10 +15,11 @@ use Rattle.model.specs.Events.{WrittenEvent, EventsRead, events, leftSide}
 use Rattle.model.specs.Calls.{WrittenCall, CallsRead, calls, rightSide}
 use Rattle.model.specs.Compiling.{productionPasses, passesLimit, withCalls, withEvents, lineRead, EventsJudged, keep, judgedAll, callOf, LineOutcome, add, withinLimits, lineJudged, lineFrom, lineOutcome}
 use Rattle.model.specs.declared.events.KeptEvent.{KeptEvent}
-use Rattle.scanner.specs.Sides.{leftOf, rightOf, parameterNumber, mostOf}
-use Rattle.scanner.specs.declared.sides.LeftRead.{LeftRead}
-use Rattle.scanner.specs.declared.sides.RightRead.{RightRead}
-use Rattle.scanner.proofs.Right.{most-passes}
+use Rattle.event_scanner.specs.LeftSide.{leftOf}
+use Rattle.call_scanner.specs.RightSide.{rightOf, parameterNumber, mostOf}
+use Rattle.event_scanner.specs.declared.left.LeftRead.{LeftRead}
+use Rattle.call_scanner.specs.declared.right.RightRead.{RightRead}
+use Rattle.call_scanner.proofs.RightSide.{most-passes}
 use Rattle.lines.specs.declared.totals.Totals.{Totals}
 use Rattle.lines.specs.declared.totals.Line.{Line}
 use Rattle.lines.specs.declared.left.LeftJudged.{LeftJudged}

@@ -1,15 +1,15 @@
 // The events of a line that is in the grammar, judged in order: the earliest refusal, or how much is kept.
 use counts::element_count;
+use event_scanner::events::EventRead;
+use event_scanner::events::EventSpans;
+use event_scanner::events::read_event;
+use event_scanner::keys::key_at;
+use event_scanner::types::after_event_at;
 use judge::events::judge_key;
 use judge::spans::judge_event;
 use model::answers::Judged;
 use model::scan::AfterEvent;
 use model::scan::KeyRead;
-use scanner::events::EventRead;
-use scanner::events::EventSpans;
-use scanner::events::read_event;
-use scanner::keys::key_at;
-use scanner::types::after_event_at;
 ghost use mathlib.Core.Path.{_≡_};
 ghost use mathlib.Core.List.{[], _∷_};
 ghost use Prim.Native.Nat.{_+_, _≤_};

@@ -10,7 +10,7 @@ use lib.Dec.{eqb}
 use Rattle.model.specs.Numbers.{matchedNumber, matchedSelection}
 use Rattle.model.specs.Setting.{Setting}
 use Rattle.model.specs.Tables.{Table}
-use Rattle.model.specs.Records.{isBadRecord, recordRead, eventOf, codeOf}
+use Rattle.model.specs.Records.{recordRead, eventOf, codeOf}
 use Rattle.model.specs.Lists.{any}
 use Rattle.model.specs.Matching.{hasType, readingOf}
 use Rattle.model.specs.Demand.{MatchCall, selection}
@@ -20,11 +20,11 @@ use Rattle.model.specs.declared.answers.Matched.{Matched}
 use Rattle.machine.specs.Kept.{Kept, Step, choice, dropEvent, hear, act}
 use Rattle.tables.specs.Reading.{decode}
 use Rattle.states.specs.declared.State.{State}
-use Rattle.states.specs.State.{keptOf, wholeState}
+use Rattle.states.specs.State.{keptOf}
 use Rattle.matcher.specs.declared.Answer.{Answer}
-use Rattle.matcher.specs.Match.{matchCall, stepAnswer, refusedWith, matchNumber, readSelection, matchSelection, callAnswer}
-use Rattle.matcher.specs.Laws.{AnswerLaws, EveryAnswer}
-use Rattle.matcher.proofs.MatchLaws.{Past, past-all, read-good, acted, dropped-event}
+use Rattle.matcher.specs.Match.{matchCall, stepAnswer, refusedWith, matchNumber, matchSelection, callAnswer}
+use Rattle.matcher.specs.Laws.{EveryAnswer}
+use Rattle.matcher.proofs.MatchLaws.{past-all, read-good, acted, dropped-event}
 use Rattle.matcher.proofs.NextLaws.{accepted-whole}
 
 -- ---- An event that is read

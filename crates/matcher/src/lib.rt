@@ -56,7 +56,7 @@ fn refusal(table: &[u8], map: &[u8], state: State) -> u8
 {
     first_of(
         too_short(table, map),
-        !tables::check::whole(table),
+        !table_check::whole(table),
         !states::state_whole(state),
     )
 }

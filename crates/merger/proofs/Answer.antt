@@ -6,9 +6,9 @@ use mathlib.Core.Bool.{Bool, true, false, not}
 use mathlib.Core.List.{List, _++_}
 use lib.Dec.{eqb}
 use lib.ListN.{length, drop}
-use borrow.Author.Tests.{lt-ltb, le-ltb, ne-eqb}
+use borrow.Author.Tests.{lt-ltb, le-ltb, eqb-true, ne-eqb}
 use Rattle.words.specs.Words.{cleared}
-use Rattle.model.specs.Numbers.{mergeOrder}
+use Rattle.model.specs.Numbers.{mergeOrder, mergedNumber}
 use Rattle.model.specs.Merging.{mergedTable, mergePassesLimit}
 use Rattle.model.specs.declared.answers.Merged.{Merged}
 use Rattle.tables.specs.Layout.{encode, tableLength}
@@ -51,10 +51,27 @@ none-apply false false false true e h = absurd (omega arith)
 none-apply false false false false true h = absurd (omega arith)
 none-apply false false false false false h = record { oldNotWhole = refl; newNotWhole = refl; oldMerged = refl; newMerged = refl; past = refl }
 
+-- the number of an answer is the number that it was made from
+answer-of : (n : ℕ) → mergedNumber (numberAnswer n) ≡ n
+answer-of n = go (eqb n 0) refl
+  where
+    go : (t : Bool) → eqb n 0 ≡ t → mergedNumber (numberAnswer n) ≡ n
+    go true q = rw q (sym (eqb-true n 0 q))
+    go false q = rw q
+
 module _ (old new out : List ℕ) where
   by-number : (n : ℕ) → mergeNumber old new out ≡ n → mergeAnswer old new out ≡ numberAnswer n
   unfolding mergeAnswer
   by-number n e = ap numberAnswer e
+
+  pub answer-number : mergedNumber (mergeAnswer old new out) ≡ mergeNumber old new out
+  unfolding mergeAnswer
+  answer-number = answer-of (mergeNumber old new out)
+
+  -- an answer and bytes, with the number of the answer
+  pub numbered : {r : Merged} {b : List ℕ} → (r ≡ mergeAnswer old new out) × (b ≡ mergedBytes old new out)
+      → (r ≡ mergeAnswer old new out) × ((mergedNumber r ≡ mergeNumber old new out) × (b ≡ mergedBytes old new out))
+  numbered h = (h .0, (ap mergedNumber (h .0) ∙ answer-number, h .1))
 
   -- ---- 1
 

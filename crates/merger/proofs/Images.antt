@@ -13,11 +13,11 @@ use Rattle.tables.specs.Writing.{putEvent, putCall, putParameter, noEntries, wi
 use Rattle.tables.proofs.Images.{Room}
 use Rattle.tables.proofs.Lists.{flat-append}
 use Rattle.tables.proofs.Written.{put-event, put-call, put-parameter, put-production}
-use Rattle.merger.specs.Kept.{markedCall, fromText}
-use Rattle.merger.specs.Counting.{noTally, tallyOne, tallyAll, TallyRoom}
-use Rattle.merger.specs.Copying.{puts, putCallIn, putOne, putAll}
-use Rattle.merger.specs.declared.count.Tally.{Tally}
-use Rattle.merger.proofs.Tallies.{TallySums, tally-sums, parameters-marked, one-room, first-room, tail-room, one-after}
+use Rattle.tally.specs.Kept.{markedCall, fromText}
+use Rattle.tally.specs.Counting.{noTally, tallyOne, tallyAll, TallyRoom}
+use Rattle.copying.specs.Copying.{puts, putCallIn, putOne, putAll}
+use Rattle.tally.specs.declared.count.Tally.{Tally}
+use Rattle.tally.proofs.Tallies.{TallySums, tally-sums, parameters-marked, one-room, first-room, tail-room, one-after}
 
 -- ---- Several entries
 

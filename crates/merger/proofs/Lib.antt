@@ -1,14 +1,6 @@
-pub mod Steps
-pub mod WholeFacts
-pub mod Tallies
-pub mod ElementSizes
-pub mod Puts
-pub mod Extents
-pub mod KeptSteps
 pub mod Pieces
 pub mod Totals
 pub mod Images
-pub mod Directives
 pub mod Result
 pub mod Answer
 pub mod Theorems

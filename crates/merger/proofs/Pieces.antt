@@ -15,9 +15,9 @@ use Rattle.tables.specs.Fitting.{callInRange, fitting}
 use Rattle.tables.specs.Whole.{whole}
 use Rattle.tables.proofs.Facts.{fit-facts, CallFacts, call-facts}
 use Rattle.tables.proofs.MergedFits.{flat-all}
-use Rattle.merger.specs.Kept.{firstOf, restOf, keptFrom, markedCall, fromText}
-use Rattle.merger.proofs.WholeFacts as facts
-use Rattle.merger.proofs.Tallies.{all-productions}
+use Rattle.tally.specs.Kept.{firstOf, restOf, keptFrom, markedCall, fromText}
+use Rattle.tally.proofs.WholeFacts as facts
+use Rattle.tally.proofs.Tallies.{all-productions}
 
 -- ---- Without none: all
 

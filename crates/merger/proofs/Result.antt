@@ -17,12 +17,12 @@ use Rattle.tables.specs.Whole.{whole}
 use Rattle.tables.proofs.Theorems.{whole-encode, decode-encode}
 use Rattle.tables.proofs.Written.{put-header, cleared-holds}
 use Rattle.tables.proofs.MergedFits.{merged-fits}
-use Rattle.merger.specs.Kept.{keptFrom, fromText}
-use Rattle.merger.specs.Counting.{noTally, tallyAll, tallyBy, tallyMerged, TallyRoom}
-use Rattle.merger.specs.Copying.{putAll, putBy, putMerged}
-use Rattle.merger.specs.declared.count.Tally.{Tally}
-use Rattle.merger.proofs.WholeFacts as facts
-use Rattle.merger.proofs.Tallies.{TallySums, tally-sums, tally-marked, all-room}
+use Rattle.tally.specs.Kept.{keptFrom, fromText}
+use Rattle.tally.specs.Counting.{noTally, tallyAll, tallyBy, tallyMerged, TallyRoom}
+use Rattle.copying.specs.Copying.{putAll, putBy, putMerged}
+use Rattle.tally.specs.declared.count.Tally.{Tally}
+use Rattle.tally.proofs.WholeFacts as facts
+use Rattle.tally.proofs.Tallies.{TallySums, tally-sums, tally-marked, all-room}
 use Rattle.merger.proofs.Pieces.{piecesBy, pieces}
 use Rattle.merger.proofs.Totals.{tally-merged, merge-room}
 use Rattle.merger.proofs.Images.{bodyOf, body-none, body-room, put-all}

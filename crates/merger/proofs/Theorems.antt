@@ -1,19 +1,18 @@
--- What the output then is: after an accepted merge a whole table that reads as model's merge of the two tables, after a
--- refusal but 1 the empty table.
+-- What the output then is, as specs/Results states it.
 use Prim.Native.Nat.{ℕ}
 use native.Mathlib.Omega.{arith}
-use mathlib.Core.Path.{_≡_, refl, sym, ap, _∙_}
+use mathlib.Core.Path.{_≡_, refl, ap, _∙_}
 use mathlib.Core.Bool.{Bool, true, false, not}
 use mathlib.Core.List.{List, _++_}
 use lib.Dec.{eqb, ltb}
 use lib.ListN.{length, drop}
 use borrow.Author.Tests.{eqb-true, ne-eqb}
 use Rattle.words.specs.Words.{cleared}
-use Rattle.model.specs.Numbers.{mergeOrder, mergedNumber}
+use Rattle.model.specs.Numbers.{mergeOrder}
 use Rattle.model.specs.Compiling.{passesLimit, totalsPass}
 use Rattle.model.specs.Tables.{emptyTable}
 use Rattle.model.specs.Merging.{mergedTable, mergePassesLimit}
-use Rattle.model.specs.Demand.{Accepted, byMerging}
+use Rattle.model.specs.Demand.{byMerging}
 use Rattle.model.specs.declared.answers.Merged.{Merged}
 use Rattle.tables.specs.Layout.{encode, tableLength, flat}
 use Rattle.tables.specs.Reading.{decode}
@@ -21,6 +20,7 @@ use Rattle.tables.specs.Fitting.{textsInRange, fitting}
 use Rattle.tables.specs.Whole.{whole}
 use Rattle.tables.proofs.Theorems.{whole-encode, decode-encode, encode-empty}
 use Rattle.merger.specs.Merge.{mergeNumber, numberAnswer, mergeAnswer, mergedBytes}
+use Rattle.merger.specs.Results.{MergeIsWhole, MergeReadsAs, MergeIsAccepted, RefusedMergeIsEmpty}
 use Rattle.merger.proofs.Answer.{not-no}
 use Rattle.merger.proofs.Result.{result-whole, result-decode}
 
@@ -54,34 +54,21 @@ answer-zero n e = go (eqb n 0) refl
         let z : _≡_ {A = ℕ} 0 1 = cc in
         absurd (omega arith)
 
-answer-of : (n : ℕ) → mergedNumber (numberAnswer n) ≡ n
-answer-of n = go (eqb n 0) refl
-  where
-    go : (t : Bool) → eqb n 0 ≡ t → mergedNumber (numberAnswer n) ≡ n
-    go true q = rw q (sym (eqb-true n 0 q))
-    go false q = rw q
-
 empty-fits : fitting emptyTable ≡ true
 unfolding fitting textsInRange flat passesLimit totalsPass
 empty-fits = refl
 
-module _ (old new out : List ℕ) where
-  -- the number of the answer
-  pub answer-number : mergedNumber (mergeAnswer old new out) ≡ mergeNumber old new out
-  unfolding mergeAnswer
-  answer-number = answer-of (mergeNumber old new out)
+module _ (old new out : List ℕ) (ne : mergeNumber old new out ≡ 0 → ⊥) (nl : mergeNumber old new out ≡ 1 → ⊥) where
+  bytes-left : mergedBytes old new out ≡ encode emptyTable ++ drop tableLength out
+  unfolding mergedBytes cleared
+  bytes-left = rw (ne-eqb (mergeNumber old new out) 0 ne, ne-eqb (mergeNumber old new out) 1 nl, encode-empty)
 
-  module _ (ne : mergeNumber old new out ≡ 0 → ⊥) (nl : mergeNumber old new out ≡ 1 → ⊥) where
-    bytes-left : mergedBytes old new out ≡ encode emptyTable ++ drop tableLength out
-    unfolding mergedBytes cleared
-    bytes-left = rw (ne-eqb (mergeNumber old new out) 0 ne, ne-eqb (mergeNumber old new out) 1 nl, encode-empty)
-
-    -- "After any other the compiler and merger leave the output table all zero, an empty table."
-    pub refused-whole : whole (mergedBytes old new out) ≡ true
-    refused-whole = rw bytes-left (whole-encode emptyTable empty-fits (drop tableLength out))
-
-    pub refused-empty : decode (mergedBytes old new out) ≡ emptyTable
-    refused-empty = ap decode bytes-left ∙ decode-encode emptyTable empty-fits (drop tableLength out)
+pub refused-empty : RefusedMergeIsEmpty
+refused-empty old new out ne nl =
+    let e = bytes-left old new out ne nl in (
+      rw e (whole-encode emptyTable empty-fits (drop tableLength out)),
+      ap decode e ∙ decode-encode emptyTable empty-fits (drop tableLength out),
+    )
 
 module _ (old new out : List ℕ) (yes : mergeAnswer old new out ≡ Merged.Accepted) where
   zero : mergeNumber old new out ≡ 0
@@ -97,18 +84,19 @@ module _ (old new out : List ℕ) (yes : mergeAnswer old new out ≡ Merged.Acce
   unfolding mergedBytes
   bytes-there = rw zero
 
-  -- the output is a whole table
-  pub accepted-whole : whole (mergedBytes old new out) ≡ true
-  accepted-whole =
-      rw bytes-there
-      (result-whole old new (not-no (whole old) (clear .oldNotWhole)) (not-no (whole new) (clear .newNotWhole)) (clear .oldMerged) (clear .newMerged) (clear .past) (drop tableLength out))
+pub accepted-whole : MergeIsWhole
+accepted-whole old new out e =
+    let c = clear old new out e in
+    rw (bytes-there old new out e)
+    (result-whole old new (not-no (whole old) (c .oldNotWhole)) (not-no (whole new) (c .newNotWhole)) (c .oldMerged) (c .newMerged) (c .past) (drop tableLength out))
 
-  -- and reads as model's merge of what the two tables read as
-  pub accepted-decode : decode (mergedBytes old new out) ≡ mergedTable (decode old) (decode new)
-  accepted-decode =
-      ap decode bytes-there
-      ∙ result-decode old new (not-no (whole old) (clear .oldNotWhole)) (not-no (whole new) (clear .newNotWhole)) (clear .oldMerged) (clear .newMerged) (clear .past) (drop tableLength out)
+pub accepted-decode : MergeReadsAs
+accepted-decode old new out e =
+    let c = clear old new out e in
+    ap decode (bytes-there old new out e)
+    ∙ result-decode old new (not-no (whole old) (c .oldNotWhole)) (not-no (whole new) (c .newNotWhole)) (c .oldMerged) (c .newMerged) (c .past) (drop tableLength out)
 
-  -- so it is an accepted table where the two are: demand 3 holds of it
-  pub accepted-accepted : Accepted (decode old) → Accepted (decode new) → Accepted (decode (mergedBytes old new out))
-  accepted-accepted a b = rw accepted-decode (byMerging a b (clear .oldMerged) (clear .newMerged) (clear .past))
+pub accepted-accepted : MergeIsAccepted
+accepted-accepted old new out e a b =
+    let c = clear old new out e in
+    rw (accepted-decode old new out e) (byMerging a b (c .oldMerged) (c .newMerged) (c .past))

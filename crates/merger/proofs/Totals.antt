@@ -20,11 +20,11 @@ use Rattle.tables.specs.Whole.{whole}
 use Rattle.tables.proofs.Lists.{all-none, all-weaker, length-flat, inAll-flat}
 use Rattle.tables.proofs.Facts.{LimitFacts, limit-facts, ProductionFacts, production-facts, facts-production, events-in-all}
 use Rattle.tables.proofs.MergedFits.{all-merged, all-map}
-use Rattle.merger.specs.Kept.{keptFrom, fromText}
-use Rattle.merger.specs.Counting.{noTally, tallyAll, tallyBy, tallyMerged, tallyPasses, TallyRoom}
-use Rattle.merger.specs.declared.count.Tally.{Tally}
-use Rattle.merger.proofs.WholeFacts as facts
-use Rattle.merger.proofs.Tallies.{TallySums, tally-sums, tally-append, tally-marked}
+use Rattle.tally.specs.Kept.{keptFrom, fromText}
+use Rattle.tally.specs.Counting.{noTally, tallyAll, tallyBy, tallyMerged, tallyPasses, TallyRoom}
+use Rattle.tally.specs.declared.count.Tally.{Tally}
+use Rattle.tally.proofs.WholeFacts as facts
+use Rattle.tally.proofs.Tallies.{TallySums, tally-sums, tally-append, tally-marked}
 use Rattle.merger.proofs.Pieces.{piecesBy, pieces}
 
 -- ---- The tally of what is copied

@@ -1,4 +1,2 @@
 pub mod Merge
-pub mod Kept
-pub mod Counting
-pub mod Copying
+pub mod Results

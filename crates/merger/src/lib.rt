@@ -1,19 +1,14 @@
 // The merge of two tables into lent bytes: judge first, read only, then clear and write.
 use model::answers::Merged;
-
-mod compare;
-mod copy;
-mod count;
-
 ghost use mathlib.Core.Path.{_≡_};
 ghost use mathlib.Core.Bool.{false, not};
 ghost use Prim.Native.Nat.{_≤_};
 ghost use lib.ListN.{length};
-ghost use Rattle.model.specs.Numbers.{mergeOrder};
+ghost use Rattle.model.specs.Numbers.{mergeOrder, mergedNumber};
 ghost use Rattle.model.specs.Merging.{mergePassesLimit};
 ghost use Rattle.tables.specs.Reading.{decode};
 ghost use Rattle.tables.specs.Whole.{whole};
-ghost use Rattle.merger.specs.Merge.{mergeAnswer, mergedBytes};
+ghost use Rattle.merger.specs.Merge.{mergeNumber, mergeAnswer, mergedBytes};
 ghost use Rattle.tables.specs.Layout.{tableLength};
 
 // The number of the first check on the tables that applies, 0 where none does.
@@ -21,10 +16,10 @@ fn judged(old: &[u8], new: &[u8]) -> u8
     requires { ⌜ (tableLength ≤ length (now old)) × (tableLength ≤ length (now new)) ⌝ }
     ensures { λ r. ⌜ r ≡ mergeOrder false false false (not (whole (now (old .entry)))) (not (whole (now (new .entry)))) (decode (now (old .entry)) .merged) (decode (now (new .entry)) .merged) (mergePassesLimit (decode (now (old .entry))) (decode (now (new .entry)))) ⌝ }
 {
-    if !tables::check::whole(old) {
+    if !table_check::whole(old) {
         return 12;
     }
-    if !tables::check::whole(new) {
+    if !table_check::whole(new) {
         return 12;
     }
     if tables::read::merged(old) {
@@ -33,7 +28,7 @@ fn judged(old: &[u8], new: &[u8]) -> u8
     if tables::read::merged(new) {
         return 17;
     }
-    if count::tally_passes(count::tally_merged(old, new)) {
+    if tally::count::tally_passes(tally::count::tally_merged(old, new)) {
         return 11;
     }
     0
@@ -42,6 +37,7 @@ fn judged(old: &[u8], new: &[u8]) -> u8
 // Merges the new table into the old one by the new one's directive. Any bytes may be lent.
 pub fn merge(old: &[u8], new: &[u8], out: &mut [u8]) -> Merged
     ensures answer { λ r. ⌜ r ≡ mergeAnswer (now (old .entry)) (now (new .entry)) (now (out .entry)) ⌝ }
+    ensures number { λ r. ⌜ mergedNumber r ≡ mergeNumber (now (old .entry)) (now (new .entry)) (now (out .entry)) ⌝ }
     ensures bytes { λ r. ⌜ now (out .exit) ≡ mergedBytes (now (old .entry)) (now (new .entry)) (now (out .entry)) ⌝ }
 {
     if old.len() < tables::TABLE_LENGTH {
@@ -58,6 +54,6 @@ pub fn merge(old: &[u8], new: &[u8], out: &mut [u8]) -> Merged
     if number != 0 {
         return Merged::Refused(number);
     }
-    copy::put_merged(old, new, out);
+    copying::copy::put_merged(old, new, out);
     Merged::Accepted
 }

@@ -1,4 +1,6 @@
 -- Document 01, "The text": calls and their parameters, read at a position of a line.
+-- The recursion with fuel need not be believed by a reader who believes grammar/specs/Compiling and Exact (see Events). Out of fuel
+-- reads as broken.
 use Prim.Native.Nat.{ℕ, zero, suc, _+_, _-_}
 use mathlib.Core.Bool.{cond}
 use mathlib.Core.List.{List, [], _∷_}

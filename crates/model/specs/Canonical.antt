@@ -1,4 +1,8 @@
 -- Document 01, "Merging and writing": the canonical text of a table.
+-- A whole table may hold events that no text gives, and how they are written the papers leave open: "choice" marks each place.
+-- What every choice has in common: the text goes by the table and its texts within the lengths that it keeps; each event
+-- has the form of every other, modifiers, type, count and detail, and stands in its place; all other events, and the calls, are
+-- written as ever. Such a text need not compile, and need not read back.
 use Prim.Native.Nat.{ℕ, zero, suc, _+_, _/_, _%_}
 use mathlib.Core.Bool.{Bool, false, cond, not, _&&_, _||_}
 use mathlib.Core.List.{List, [], _∷_, _++_}
@@ -66,7 +70,7 @@ isTestable e k = not (e .colon && isShiftOrLock k)
 unfoldable pub writesBang : KeptEvent → Bool
 writesBang e = takesModifiers (e .code) && all (λ k. not (isTestable e k) || asksBit e k) bits
 
--- a set bit by its name, a clear one with `~`
+-- a set bit by its name, a clear one with `~`; choice: a bit asked both set and clear is written as set
 abbrev pub bitText : KeptEvent → ℕ → List ℕ
 bitText e k = cond (bit k (e .set)) (bitName k) (bytes "~" ++ bitName k)
 
@@ -78,7 +82,8 @@ isWrittenBit e k = cond (writesBang e) (bit k (e .set)) (asksBit e k)
 unfoldable pub bitsText : KeptEvent → List ℕ
 bitsText e = joinedBy (bytes " ") (each (bitText e) (those (isWrittenBit e) writingOrder))
 
--- "nothing between `!`, `:` and the first modifier"
+-- "nothing between `!`, `:` and the first modifier"; choice: modifiers on a type that takes none, and a colon on a type that is no
+-- key or beside Shift or Lock, are written as on the others
 unfoldable pub modifiersText : KeptEvent → List ℕ
 modifiersText e = cond (writesBang e) (bytes "!") [] ++ (cond (e .colon) (bytes ":") [] ++ bitsText e)
 
@@ -89,7 +94,7 @@ isCodeOf code (TypeName.Known ty) = eqb (ty .code) code
 isCodeOf code TypeName.Unknown = false
 
 -- "canonical type names"; "`<BtnMotion>` has no canonical name and keeps its own, unless a button is required set", when the
--- clause isn't kept
+-- clause isn't kept; choice: a clause on a type that is no motion, or beside a button asked set, is written `BtnMotion` too
 unfoldable pub typeText : KeptEvent → List ℕ
 typeText e = cond (e .clause) (bytes "BtnMotion") (nameOf (isCodeOf (e .code)) [] protocolEntries)
 
@@ -103,6 +108,7 @@ isValue v DetailRead.NotBuilt = false
 abbrev pub nameOrDecimal : List (Entry DetailRead) → ℕ → List ℕ
 nameOrDecimal entries v = nameOf (isValue v) (decimal v) entries
 
+-- choice: a value on a type that takes no detail is written as one of `<Mapping>` is, and a value out of a type's range in decimal
 unfoldable pub valueText : ℕ → ℕ → List ℕ
 valueText code v =
     cond (isKey code) (hexadecimal v)

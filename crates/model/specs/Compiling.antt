@@ -1,4 +1,6 @@
 -- Document 01, "Numbers handed back" and "The text": what a text compiles to.
+-- The recursion with fuel need not be believed by a reader who believes grammar/specs/Compiling and Exact (see Events): `linesFrom`
+-- and what it calls compute the outcome that the relation `Compiles` there gives. Out of fuel reads as a refusal, and is never reached.
 use Prim.Native.Nat.{ℕ, zero, suc, _+_}
 use mathlib.Core.Bool.{Bool, false, cond, _||_}
 use mathlib.Core.List.{List, [], _∷_, _++_, map}
@@ -141,9 +143,13 @@ afterDirective text at directive ps none rest =
     (goOn text (lineEnd text at) directive ps rest)
     (afterLine text at directive ps (lineOutcome ps at (lineAt text at)) rest)
 
+-- where the fuel of `linesFrom` ends, which is never reached (`enough` of grammar/specs/Exact): a refusal by 1, which no line gives
+abbrev pub outOfFuel : ℕ → Outcome
+outOfFuel at = refused shortBuffer at
+
 -- "line by line": the lines from a position on, after productions; fuel bounds how many
 unfoldable pub linesFrom : ℕ → List ℕ → ℕ → Directive → List Production → Outcome
-linesFrom zero text at directive ps = accepted (tableOf text directive ps)
+linesFrom zero text at directive ps = outOfFuel at
 linesFrom (suc fuel) text at directive ps =
     afterDirective text at directive ps (directiveAt text at) (λ p d qs. linesFrom fuel text p d qs)
 

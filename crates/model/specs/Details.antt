@@ -7,10 +7,20 @@ use mathlib.Core.Option.{Option, none, some}
 use lib.Dec.{eqb, ltb}
 use lib.ListN.{length, drop}
 use Rattle.model.specs.Limits.{keysymLimit, smallDetailLimit}
+use Rattle.model.specs.Numbers.{noRefusal, unknownName, badNumber, notBuilt}
 use Rattle.model.specs.Bytes.{isCode, inRange, byteAt, isDigit}
 use Rattle.model.specs.Codes.{isKey, isButton, motionNotify, hasMode, mappingNotify, hasAtom}
 use Rattle.model.specs.Names.{Entry, firstMeaning}
 use Rattle.model.specs.declared.names.DetailRead.{DetailRead}
+
+-- ---- The number of each case
+
+-- 5 for a name that is unknown, a malformed number, a detail where none is taken; 6 for a number out of range; 10 for an atom
+abbrev pub detailNumber : DetailRead → ℕ
+detailNumber (DetailRead.Value v) = noRefusal
+detailNumber DetailRead.Unknown = unknownName
+detailNumber DetailRead.TooLarge = badNumber
+detailNumber DetailRead.NotBuilt = notBuilt
 
 -- ---- Numbers
 

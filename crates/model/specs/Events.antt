@@ -1,4 +1,6 @@
 -- Document 01, "The text": an event as it is written, and a key sequence, read at a position of a line.
+-- The recursion with fuel computes what the grammar derives: a reader who believes the relation of grammar/specs/Compiling and the
+-- statement of grammar/specs/Exact, which is proved, need not believe the recursion. Out of fuel reads as broken.
 use Prim.Native.Nat.{ℕ, zero, suc, _+_}
 use mathlib.Core.Bool.{Bool, true, false, cond, not, _&&_, _||_}
 use mathlib.Core.List.{List, [], _∷_, _++_}

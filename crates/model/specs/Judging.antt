@@ -6,11 +6,11 @@ use mathlib.Core.Option.{Option, none, some}
 use lib.Dec.{eqb}
 use lib.ListN.{length}
 use Rattle.model.specs.Lists.{any, isEmpty}
-use Rattle.model.specs.Numbers.{eventOrder, unknownName, notBuilt}
+use Rattle.model.specs.Numbers.{noRefusal, unknownName, badNumber, notBuilt, eventOrder}
 use Rattle.model.specs.Bytes.{inRange, byteAt}
-use Rattle.model.specs.Names.{shiftBit, lockBit, ctrlBit, modifierNamed, typeNamed}
+use Rattle.model.specs.Names.{shiftBit, lockBit, ctrlBit, modifierNumber, modifierNamed, typeNamed}
 use Rattle.model.specs.Codes.{keyPress, isKey, takesCount, takesModifiers}
-use Rattle.model.specs.Details.{detailNamed}
+use Rattle.model.specs.Details.{detailNumber, detailNamed}
 use Rattle.model.specs.Events.{Modifier, name, keysym, ModifierList, Count, Written, WrittenEvent, event, key}
 use Rattle.model.specs.Modifiers.{modifiersOf, has, hasColon, isWritten, addsBit, setMask, clearMask, keepsClause, noStateMeets}
 use Rattle.model.specs.declared.scan.KeyMark.{KeyMark}
@@ -26,14 +26,10 @@ use Rattle.model.specs.declared.answers.Judged.{Judged}
 -- ---- Modifiers
 
 abbrev pub nameUnknown : ModifierName → Bool
-nameUnknown (ModifierName.Bit k) = false
-nameUnknown ModifierName.NotBuilt = false
-nameUnknown ModifierName.Unknown = true
+nameUnknown n = eqb (modifierNumber n) unknownName
 
 abbrev pub nameUnbuilt : ModifierName → Bool
-nameUnbuilt (ModifierName.Bit k) = false
-nameUnbuilt ModifierName.NotBuilt = true
-nameUnbuilt ModifierName.Unknown = false
+nameUnbuilt n = eqb (modifierNumber n) notBuilt
 
 -- "unknown modifier"
 abbrev pub modifierUnknown : Modifier → Bool
@@ -69,22 +65,13 @@ unfoldable pub detailOf : EventType → List ℕ → DetailRead
 detailOf ty word = cond (fixes (ty .detail)) DetailRead.Unknown (detailNamed (ty .code) word)
 
 abbrev pub readUnknown : DetailRead → Bool
-readUnknown (DetailRead.Value v) = false
-readUnknown DetailRead.Unknown = true
-readUnknown DetailRead.TooLarge = false
-readUnknown DetailRead.NotBuilt = false
+readUnknown r = eqb (detailNumber r) unknownName
 
 abbrev pub readTooLarge : DetailRead → Bool
-readTooLarge (DetailRead.Value v) = false
-readTooLarge DetailRead.Unknown = false
-readTooLarge DetailRead.TooLarge = true
-readTooLarge DetailRead.NotBuilt = false
+readTooLarge r = eqb (detailNumber r) badNumber
 
 abbrev pub readUnbuilt : DetailRead → Bool
-readUnbuilt (DetailRead.Value v) = false
-readUnbuilt DetailRead.Unknown = false
-readUnbuilt DetailRead.TooLarge = false
-readUnbuilt DetailRead.NotBuilt = true
+readUnbuilt r = eqb (detailNumber r) notBuilt
 
 abbrev pub readValue : DetailRead → Detail
 readValue (DetailRead.Value v) = Detail.Value v
@@ -182,9 +169,14 @@ eventNumber w ty =
     (isImpossible (keptEvent w ty))
 
 abbrev pub keepUnless : ℕ → KeptEvent → Judged
-keepUnless n e = cond (eqb n 0) (Judged.Keep e) (Judged.Refuse n)
+keepUnless n e = cond (eqb n noRefusal) (Judged.Keep e) (Judged.Refuse n)
 
 -- an unknown type is 5 whatever else is written
+abbrev pub typedNumber : Written → TypeName → ℕ
+typedNumber w (TypeName.Known ty) = eventNumber w ty
+typedNumber w TypeName.Unknown = unknownName
+
+-- the event that is kept, or its number
 abbrev pub judgedAs : Written → TypeName → Judged
 judgedAs w (TypeName.Known ty) = keepUnless (eventNumber w ty) (keptEvent w ty)
 judgedAs w TypeName.Unknown = Judged.Refuse unknownName

@@ -4,6 +4,7 @@ use Prim.Native.String.{String}
 use mathlib.Core.Bool.{Bool, cond}
 use mathlib.Core.List.{List, [], _∷_, _++_}
 use Rattle.model.specs.Lists.{bytes, same}
+use Rattle.model.specs.Numbers.{noRefusal, unknownName, notBuilt}
 use Rattle.model.specs.declared.events.Detail.{Detail}
 use Rattle.model.specs.declared.names.Added.{Added}
 use Rattle.model.specs.declared.names.TypeName.{TypeName}
@@ -43,6 +44,12 @@ firstButtonBit = 8
 
 abbrev pub lastButtonBit : ℕ
 lastButtonBit = 12
+
+-- "unknown modifier", "Not built yet: Meta, Alt, Hyper, Super"
+abbrev pub modifierNumber : ModifierName → ℕ
+modifierNumber (ModifierName.Bit k) = noRefusal
+modifierNumber ModifierName.NotBuilt = notBuilt
+modifierNumber ModifierName.Unknown = unknownName
 
 abbrev pub modifier : String → ModifierName → Entry ModifierName
 modifier n m = record { name = n; meaning = m }

@@ -1,9 +1,2 @@
-pub mod Laws
-pub mod Joined
-pub mod Named
-pub mod Digits
-pub mod Bits
-pub mod Values
-pub mod RunJoined
-pub mod ReadyFacts
+pub mod ProductionSteps
 pub mod Outcome

@@ -1,7 +1,6 @@
 -- What the writer answers and leaves, case by case in the order of its checks.
 use Prim.Native.Nat.{ℕ, _+_, _≤_, _<_}
 use native.Mathlib.Omega.{arith}
-use native.Mathlib.Nat.{zero-add}
 use mathlib.Core.Path.{_≡_, refl, sym, ap, _∙_}
 use mathlib.Core.List.{List, _++_}
 use mathlib.Core.Bool.{true, false}
@@ -9,12 +8,13 @@ use lib.ListN.{length, drop}
 use borrow.Author.Tests.{lt-ltb, le-ltb}
 use Rattle.words.specs.Runs.{run}
 use Rattle.model.specs.Canonical.{productionsText, canonicalText}
+use Rattle.model.specs.Numbers.{writtenNumber, writtenLength}
 use Rattle.model.specs.declared.answers.Written.{Written}
 use Rattle.tables.specs.Reading.{decode, productionEntry, productionTotal, firstLengthIn, secondLengthIn}
 use Rattle.tables.specs.Whole.{whole}
-use Rattle.printer.specs.Overlay.{Put}
-use Rattle.printer.specs.Write.{writeNotWhole, textWritten, writeNumber, written, writtenBytes}
-use Rattle.printer.proofs.Laws.{overlay-fits}
+use Rattle.writing.specs.Overlay.{Put}
+use Rattle.printer.specs.Write.{writeNotWhole, textWritten, writeNumber, writeLength, written, writtenBytes}
+use Rattle.writing.proofs.Laws.{overlay-fits}
 use Rattle.tables.specs.Layout.{tableLength}
 
 pub text-is : (l first second : List ℕ) → productionsText first second (run (productionEntry l) 0 (productionTotal l)) ≡ textWritten l first second
@@ -45,19 +45,21 @@ module _ (l first second : List ℕ) where
 pub record Outcome (l first second out : List ℕ) (r : Written) (after : List ℕ) : Type 0 where
   pub answer : r ≡ written l first second out
   pub bytes : after ≡ writtenBytes l first second out
+  pub number : writtenNumber r ≡ writeNumber l first second out
+  pub length : writtenLength r ≡ writeLength l first second out
 
 module _ (l first second out : List ℕ) where
   one : writeNumber l first second out ≡ 1 → Outcome l first second out (Written.Refused 1) out
-  unfolding written writtenBytes
-  one e = record { answer = rw e; bytes = rw e }
+  unfolding written writtenBytes writeLength
+  one e = record { answer = rw e; bytes = rw e; number = sym e; length = rw e }
 
   twelve : writeNumber l first second out ≡ 12 → Outcome l first second out (Written.Refused 12) out
-  unfolding written writtenBytes
-  twelve e = record { answer = rw e; bytes = rw e }
+  unfolding written writtenBytes writeLength
+  twelve e = record { answer = rw e; bytes = rw e; number = sym e; length = rw e }
 
   none : writeNumber l first second out ≡ 0 → Outcome l first second out (Written.Accepted (length (textWritten l first second))) (textWritten l first second ++ drop (length (textWritten l first second)) out)
-  unfolding written writtenBytes
-  none e = record { answer = rw e; bytes = rw e }
+  unfolding written writtenBytes writeLength
+  none e = record { answer = rw e; bytes = rw e; number = sym e; length = rw e }
 
   pub short-table : length l < tableLength → Outcome l first second out (Written.Refused 1) out
   unfolding writeNumber
@@ -84,4 +86,6 @@ module _ (l first second out : List ℕ) where
       record {
         answer = ap Written.Accepted f ∙ o .answer;
         bytes = p .bytes ∙ rw (text-is l first second) (overlay-fits out (textWritten l first second) fit) ∙ o .bytes;
+        number = o .number;
+        length = f ∙ o .length;
       }

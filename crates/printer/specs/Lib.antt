@@ -1,4 +1,1 @@
-pub mod Overlay
-pub mod Places
-pub mod Ready
 pub mod Write

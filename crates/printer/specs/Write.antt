@@ -5,7 +5,7 @@ use mathlib.Core.Bool.{Bool, cond, not, _||_}
 use mathlib.Core.List.{List, _++_}
 use lib.Dec.{eqb, ltb}
 use lib.ListN.{length, drop}
-use Rattle.model.specs.Numbers.{writeOrder}
+use Rattle.model.specs.Numbers.{writeOrder, noRefusal}
 use Rattle.model.specs.Canonical.{canonicalText}
 use Rattle.model.specs.declared.answers.Written.{Written}
 use Rattle.tables.specs.Layout.{tableLength}
@@ -28,9 +28,13 @@ module _ (l first second : List ℕ) where
     unfoldable pub writeNumber : ℕ
     writeNumber = writeOrder (ltb (length l) tableLength) writeNotWhole (ltb (length out) (length textWritten))
 
+    -- how many bytes are written
+    unfoldable pub writeLength : ℕ
+    writeLength = cond (eqb writeNumber noRefusal) (length textWritten) 0
+
     unfoldable pub written : Written
-    written = cond (eqb writeNumber 0) (Written.Accepted (length textWritten)) (Written.Refused writeNumber)
+    written = cond (eqb writeNumber noRefusal) (Written.Accepted (length textWritten)) (Written.Refused writeNumber)
 
     -- "A refused write changes no byte"; bytes past the text are never touched
     unfoldable pub writtenBytes : List ℕ
-    writtenBytes = cond (eqb writeNumber 0) (textWritten ++ drop (length textWritten) out) out
+    writtenBytes = cond (eqb writeNumber noRefusal) (textWritten ++ drop (length textWritten) out) out

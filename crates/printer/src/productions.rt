@@ -1,7 +1,5 @@
 // Productions as they are written, one a line.
-use crate::bytes;
-use crate::calls;
-use crate::events;
+use writing::bytes;
 ghost use mathlib.Core.Path.{_≡_};
 ghost use mathlib.Core.Bool.{true};
 ghost use Prim.Native.Nat.{_+_, _≤_, _<_};
@@ -10,8 +8,8 @@ ghost use Rattle.model.specs.Lists.{bytes};
 ghost use Rattle.model.specs.Canonical.{joinedBy, each, eventText, productionText, productionsText};
 ghost use Rattle.tables.specs.Whole.{whole};
 ghost use Rattle.tables.specs.Reading.{eventTotal, eventEntry, productionTotal, productionEntry};
-ghost use Rattle.printer.specs.Overlay.{Put};
-ghost use Rattle.printer.specs.Ready.{WriteReady};
+ghost use Rattle.writing.specs.Overlay.{Put};
+ghost use Rattle.call_text.specs.Ready.{WriteReady};
 
 // n events, from event `from` on.
 fn put_events(out: &mut [u8], at: usize, l: &[u8], from: usize, n: usize) -> usize
@@ -23,7 +21,7 @@ fn put_events(out: &mut [u8], at: usize, l: &[u8], from: usize, n: usize) -> usi
     while k < n {
         let e = tables::read::event_at(l, from + k);
         next = bytes::put_separator(out, next, k, b',');
-        next = events::put_event(out, next, e);
+        next = event_text::put_event(out, next, e);
         k += 1;
     }
     next
@@ -46,7 +44,7 @@ fn put_production(
     let call_count = tables::read::production_calls(l, p);
     let mut next = put_events(out, at, l, first_event, event_count);
     next = bytes::put_byte(out, next, b':');
-    next = calls::put_calls(out, next, l, first, second, first_call, call_count);
+    next = call_text::put_calls(out, next, l, first, second, first_call, call_count);
     bytes::put_byte(out, next, b'\n')
 }
 

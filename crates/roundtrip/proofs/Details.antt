@@ -14,7 +14,7 @@ use Rattle.model.specs.Names.{Entry, firstMeaning}
 use Rattle.model.specs.Details.{digitValue, digitsFrom, numberIn, keyDetail, smallNumber, nameOrNumber, detailNamed, buttonEntries, motionEntries, modeEntries, requestEntries}
 use Rattle.model.specs.Canonical.{digitsIn, decimal, hexadecimal, isValue, nameOrDecimal, valueText}
 use Rattle.model.specs.declared.names.DetailRead.{DetailRead}
-use Rattle.names.proofs.Ranges.{detailSound}
+use Rattle.lookup.proofs.Ranges.{detailSound}
 use Rattle.modifiers.proofs.Below.{every, every-at, both-left, both-right}
 use Rattle.grammar.specs.Bytes.{letterOrDigit}
 use Rattle.roundtrip.proofs.Lists.{choose}

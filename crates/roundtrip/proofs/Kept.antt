@@ -26,7 +26,7 @@ use Rattle.model.specs.declared.names.TypeName.{TypeName}
 use Rattle.model.specs.declared.names.DetailRead.{DetailRead}
 use Rattle.model.specs.declared.answers.Judged.{Judged}
 use Rattle.names.specs.Table.{meaningsIn}
-use Rattle.names.proofs.Ranges.{named-passes, addedSound, fixedSound, passes, detailSound, detail-sound}
+use Rattle.lookup.proofs.Ranges.{named-passes, addedSound, fixedSound, passes, detailSound, detail-sound}
 use Rattle.modifiers.proofs.Masks.{bit-mask, same-mask, mask-none}
 use Rattle.modifiers.proofs.Below.{both-left, both-right}
 use Rattle.judge.specs.Ranges.{EventIn, WrittenIn}

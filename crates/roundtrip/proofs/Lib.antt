@@ -20,4 +20,3 @@ pub mod ReadCalls
 pub mod ReadEvents
 pub mod ReadTexts
 pub mod RoundTrip
-pub mod Examples

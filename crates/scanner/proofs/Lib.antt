@@ -1,11 +1,3 @@
 pub mod Runs
 pub mod BadBytes
 pub mod Ranges
-pub mod Words
-pub mod ListSteps
-pub mod KeyCounts
-pub mod Meaning
-pub mod EventRanges
-pub mod Left
-pub mod Right
-pub mod Walks

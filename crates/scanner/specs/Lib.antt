@@ -1,4 +1,1 @@
 pub mod BadByte
-pub mod ModifierLists
-pub mod Spans
-pub mod Sides

@@ -16,7 +16,7 @@ use Rattle.words.proofs.Laws.{length-zeros, getD-zeros, zeros-add}
 use Rattle.words.proofs.RunLaws.{length-run, getD-run, run-append, run-last, run-list}
 use Rattle.keyboard.specs.Maps.{numberFrom}
 use Rattle.model.specs.declared.events.Event.{Event}
-use Rattle.states.specs.State.{zeroEvent, slots, eventBytes, eventFrom, eventIn, slotsOf, putSlot, eventsBytes, inSlots, lowBytes}
+use Rattle.states.specs.State.{zeroEvent, eventBytes, eventFrom, eventIn, slotsOf, putSlot, eventsBytes, inSlots, lowBytes}
 
 -- ---- The slots of bytes
 

@@ -197,7 +197,7 @@ module _ (text : List ℕ) (small : Small text) (short : length text ≤ 8192) w
 
   lines-fit : (fuel at : ℕ) (d : Directive) (ps : List Production) → at ≤ length text → Kept (length text) ps → Fits (linesFrom fuel text at d ps)
   unfolding linesFrom Next
-  lines-fit zero at d ps h k = table-fits d ps k
+  lines-fit zero at d ps h k = tt
   lines-fit (suc fuel) at d ps h k =
       after-directive at d ps (directiveAt text at) (λ p e qs. linesFrom fuel text p e qs) h k (λ p e qs q r. lines-fit fuel p e qs q r)
 

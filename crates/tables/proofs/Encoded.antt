@@ -1,5 +1,5 @@
 -- A table within limits and ranges, as bytes, reads as itself.
-use Prim.Native.Nat.{ℕ, _+_, _-_, _≤_, _<_}
+use Prim.Native.Nat.{ℕ, zero, suc, _+_, _≤_, _<_}
 use native.Mathlib.Omega.{arith}
 use native.Mathlib.Nat.{zero-add}
 use mathlib.Core.Path.{_≡_, refl, sym, ap, _∙_}
@@ -8,7 +8,7 @@ use mathlib.Core.Bool.{Bool, true, false, not}
 use lib.Dec.{leb, eqb}
 use lib.ListN.{length, getD, length-map, List·getD-map}
 use borrow.Author.Tests.{leb-true, not-true}
-use Rattle.words.specs.Words.{wordAt}
+use Rattle.words.specs.Words.{wordAt, zeros}
 use Rattle.words.specs.Runs.{total}
 use Rattle.words.proofs.RunLaws.{run-list, total-same}
 use Rattle.model.specs.Counts.{sequence}
@@ -18,15 +18,16 @@ use Rattle.model.specs.declared.scan.Span.{Span}
 use Rattle.model.specs.declared.events.Detail.{Detail}
 use Rattle.model.specs.declared.events.KeptEvent.{KeptEvent}
 use Rattle.model.specs.declared.events.Directive.{Directive}
-use Rattle.tables.specs.Layout.{flag, isGiven, valueOf, flagsWord, lowWord, highWord, markWord, directiveWord, allEvents, allCalls, allParameters, headerOf, entriesOf, sectionsOf, offset, capacities, encode}
+use Rattle.tables.specs.Layout.{columns, forEach, eventFields, callFields, parameterFields, flag, isGiven, valueOf, flagsWord, lowWord, highWord, markWord, directiveWord, allEvents, allCalls, allParameters, headerOf, entriesOf, sectionsOf, offset, capacities, encode}
 use Rattle.tables.specs.Layout.{productionEventsAt, productionCallsAt, codesAt, countsAt, setsAt, clearsAt, flagsAt, lowsAt, highsAt, marksAt, nameStartsAt, nameLengthsAt, callParametersAt, parameterStartsAt, parameterLengthsAt}
 use Rattle.tables.specs.Reading.{directiveFromWord, directiveIn, mergedIn, firstLengthIn, secondLengthIn, productionTotal, parameterEntry, markEntry, nameEntry, callParameters, firstParameter, callEntry, eventEntry, productionEvents, productionCalls, firstEvent, firstCall, productionEntry, decode}
 use Rattle.tables.specs.Fitting.{eventInRange, fitting}
 use Rattle.tables.proofs.Lists.{each-getD, nested}
-use Rattle.tables.proofs.EventWords.{RangeFacts, range-facts, flags-below, event-back}
+use Rattle.tables.proofs.EventWords.{flag-le, RangeFacts, range-facts, flags-below, event-back}
 use Rattle.tables.proofs.Sizes.{length-expanded, length-le-size}
 use Rattle.tables.proofs.Facts.{FitFacts, fit-facts, TextFacts, text-facts, short-span, short-spans, short-names, short-facts, ProductionFacts, production-facts, LimitFacts, limit-facts, events-in-all, calls-in-all, parameters-in-all, few-parameters}
-use Rattle.tables.proofs.Images.{Room, section-word}
+use Rattle.tables.proofs.Columns.{spread, reach}
+use Rattle.tables.proofs.Images.{Room, section-word, row-words, beforeEvents, beforeCalls, beforeParameters, events-there, calls-there, parameters-there, events-start, calls-start, parameters-start}
 
 -- ---- What stands at an unused place
 
@@ -59,9 +60,16 @@ event-small e h =
     let r : RangeFacts e = range-facts e h in
     record { code = omega arith; count = omega arith; set = r .setBelow; clear = r .clearBelow; value = r .detail }
 
-flag-small : (v : ℕ) (b : Bool) → flag v b ≤ v
-flag-small v true = omega arith
-flag-small v false = omega arith
+-- each field of an event
+fields-small : (e : KeptEvent) → EventSmall e → (k : ℕ) → getD (map (λ (f : KeptEvent → ℕ). f e) eventFields) k 0 < 65536
+fields-small e s zero = let b = s .code in omega arith
+fields-small e s (suc zero) = let b = s .count in omega arith
+fields-small e s (suc (suc zero)) = let b = s .set in omega arith
+fields-small e s (suc (suc (suc zero))) = let b = s .clear in omega arith
+fields-small e s (suc (suc (suc (suc zero)))) = let b = flags-below (e .colon) (e .clause) (isGiven (e .detail)) in omega arith
+fields-small e s (suc (suc (suc (suc (suc zero))))) = omega arith
+fields-small e s (suc (suc (suc (suc (suc (suc zero)))))) = let b = s .value in omega arith
+fields-small e s (suc (suc (suc (suc (suc (suc (suc k))))))) = omega arith
 
 directive-small : (d : Directive) → directiveWord d ≤ 2
 directive-small Directive.Replace = omega arith
@@ -128,47 +136,43 @@ module _ (t : Table) (fit : fitting t ≡ true) (rest : List ℕ) where
   small : (i : ℕ) → EventSmall (getD es i noEvent)
   small i = each-getD EventSmall eventInRange es noEvent none-small event-small (fits .events) i
 
+  event-fields : (i k : ℕ) → getD (map (λ (f : KeptEvent → ℕ). f (getD es i noEvent)) eventFields) k 0 < 65536
+  event-fields i = fields-small (getD es i noEvent) (small i)
+
+  -- the words of event i
+  pub event-words : (i : ℕ) → i < 256
+      → spread (wordAt l) 256 (length eventFields) codesAt i ≡ map (λ (f : KeptEvent → ℕ). f (getD es i noEvent)) eventFields
+  unfolding encode entriesOf zeros reach
+  event-words i h =
+      row-words (entriesOf t) rest room eventFields 256 es (forEach callFields 128 ++ forEach parameterFields 256) (columns callFields cs ++ columns parameterFields rs) (beforeEvents (entriesOf t)) codesAt (events-there (entriesOf t)) (events-start (entriesOf t) room) (omega arith) noEvent i (room .events) h refl (event-fields i)
+
   pub code-word : (i : ℕ) → i < 256 → wordAt l (codesAt + i) ≡ (getD es i noEvent) .code
-  unfolding entriesOf sectionsOf
-  code-word i h =
-      let m : getD (map (λ x. x .code) es) i 0 ≡ (getD es i noEvent) .code = List·getD-map (λ x. x .code) es i noEvent in
-      word 3 i h (rw m (let b = small i .code in omega arith)) ∙ m
+  unfolding spread
+  code-word i h = ap (λ (ws : List ℕ). getD ws 0 0) (event-words i h)
 
   pub count-word : (i : ℕ) → i < 256 → wordAt l (countsAt + i) ≡ (getD es i noEvent) .count
-  unfolding entriesOf sectionsOf
-  count-word i h =
-      let m : getD (map (λ x. x .count) es) i 0 ≡ (getD es i noEvent) .count = List·getD-map (λ x. x .count) es i noEvent in
-      word 4 i h (rw m (let b = small i .count in omega arith)) ∙ m
+  unfolding spread
+  count-word i h = ap (λ (ws : List ℕ). getD ws 1 0) (event-words i h)
 
   pub set-word : (i : ℕ) → i < 256 → wordAt l (setsAt + i) ≡ (getD es i noEvent) .set
-  unfolding entriesOf sectionsOf
-  set-word i h =
-      let m : getD (map (λ x. x .set) es) i 0 ≡ (getD es i noEvent) .set = List·getD-map (λ x. x .set) es i noEvent in
-      word 5 i h (rw m (let b = small i .set in omega arith)) ∙ m
+  unfolding spread
+  set-word i h = ap (λ (ws : List ℕ). getD ws 2 0) (event-words i h)
 
   pub clear-word : (i : ℕ) → i < 256 → wordAt l (clearsAt + i) ≡ (getD es i noEvent) .clear
-  unfolding entriesOf sectionsOf
-  clear-word i h =
-      let m : getD (map (λ x. x .clear) es) i 0 ≡ (getD es i noEvent) .clear = List·getD-map (λ x. x .clear) es i noEvent in
-      word 6 i h (rw m (let b = small i .clear in omega arith)) ∙ m
+  unfolding spread
+  clear-word i h = ap (λ (ws : List ℕ). getD ws 3 0) (event-words i h)
 
   pub flags-word : (i : ℕ) → i < 256 → wordAt l (flagsAt + i) ≡ flagsWord (getD es i noEvent)
-  unfolding entriesOf sectionsOf
-  flags-word i h =
-      let m : getD (map (λ x. flagsWord x) es) i 0 ≡ flagsWord (getD es i noEvent) = List·getD-map (λ x. flagsWord x) es i noEvent in
-      word 7 i h (rw m (let b = flags-below (getD es i noEvent .colon) (getD es i noEvent .clause) (isGiven (getD es i noEvent .detail)) in omega arith)) ∙ m
+  unfolding spread
+  flags-word i h = ap (λ (ws : List ℕ). getD ws 4 0) (event-words i h)
 
   pub low-word : (i : ℕ) → i < 256 → wordAt l (lowsAt + i) ≡ lowWord (getD es i noEvent)
-  unfolding entriesOf sectionsOf
-  low-word i h =
-      let m : getD (map (λ x. lowWord x) es) i 0 ≡ lowWord (getD es i noEvent) = List·getD-map (λ x. lowWord x) es i noEvent in
-      word 8 i h (rw m (omega arith)) ∙ m
+  unfolding spread
+  low-word i h = ap (λ (ws : List ℕ). getD ws 5 0) (event-words i h)
 
   pub high-word : (i : ℕ) → i < 256 → wordAt l (highsAt + i) ≡ highWord (getD es i noEvent)
-  unfolding entriesOf sectionsOf
-  high-word i h =
-      let m : getD (map (λ x. highWord x) es) i 0 ≡ highWord (getD es i noEvent) = List·getD-map (λ x. highWord x) es i noEvent in
-      word 9 i h (rw m (let b = small i .value in omega arith)) ∙ m
+  unfolding spread
+  high-word i h = ap (λ (ws : List ℕ). getD ws 6 0) (event-words i h)
 
   event-read : (i : ℕ) → i < 256 → eventEntry l i ≡ getD es i noEvent
   unfolding eventEntry
@@ -182,17 +186,24 @@ module _ (t : Table) (fit : fitting t ≡ true) (rest : List ℕ) where
   short-parameter i =
       each-getD (λ (s : Span). s .start + s .len ≤ 8192) short-span rs noSpan (omega arith) short-facts (short-spans t texts cs (fits .calls)) i
 
+  parameter-fields : (i k : ℕ) → getD (map (λ (f : Span → ℕ). f (getD rs i noSpan)) parameterFields) k 0 < 65536
+  parameter-fields i zero = let b = short-parameter i in omega arith
+  parameter-fields i (suc zero) = let b = short-parameter i in omega arith
+  parameter-fields i (suc (suc k)) = omega arith
+
+  pub parameter-words : (i : ℕ) → i < 256
+      → spread (wordAt l) 256 (length parameterFields) parameterStartsAt i ≡ map (λ (f : Span → ℕ). f (getD rs i noSpan)) parameterFields
+  unfolding encode entriesOf zeros reach
+  parameter-words i h =
+      row-words (entriesOf t) rest room parameterFields 256 rs [] [] (beforeParameters (entriesOf t)) parameterStartsAt (parameters-there (entriesOf t)) (parameters-start (entriesOf t) room) (omega arith) noSpan i (room .parameters) h refl (parameter-fields i)
+
   pub parameter-start-word : (i : ℕ) → i < 256 → wordAt l (parameterStartsAt + i) ≡ (getD rs i noSpan) .start
-  unfolding entriesOf sectionsOf
-  parameter-start-word i h =
-      let m : getD (map (λ (x : Span). x .start) rs) i 0 ≡ (getD rs i noSpan) .start = List·getD-map (λ (x : Span). x .start) rs i noSpan in
-      word 14 i h (rw m (let b = short-parameter i in omega arith)) ∙ m
+  unfolding spread
+  parameter-start-word i h = ap (λ (ws : List ℕ). getD ws 0 0) (parameter-words i h)
 
   pub parameter-length-word : (i : ℕ) → i < 256 → wordAt l (parameterLengthsAt + i) ≡ (getD rs i noSpan) .len
-  unfolding entriesOf sectionsOf
-  parameter-length-word i h =
-      let m : getD (map (λ (x : Span). x .len) rs) i 0 ≡ (getD rs i noSpan) .len = List·getD-map (λ (x : Span). x .len) rs i noSpan in
-      word 15 i h (rw m (let b = short-parameter i in omega arith)) ∙ m
+  unfolding spread
+  parameter-length-word i h = ap (λ (ws : List ℕ). getD ws 1 0) (parameter-words i h)
 
   parameter-read : (i : ℕ) → i < 256 → parameterEntry l i ≡ getD rs i noSpan
   unfolding parameterEntry
@@ -208,29 +219,34 @@ module _ (t : Table) (fit : fitting t ≡ true) (rest : List ℕ) where
   few-of i =
       each-getD (λ (c : Call). length (c .parameters) ≤ 8) (λ (c : Call). leb (length (c .parameters)) 8) cs noCall (omega arith) (λ c q. leb-true (length (c .parameters)) 8 q) (few-parameters ps limits) i
 
+  call-fields : (i k : ℕ) → getD (map (λ (f : Call → ℕ). f (getD cs i noCall)) callFields) k 0 < 65536
+  call-fields i zero = let b = flag-le 1 (getD cs i noCall .second) in omega arith
+  call-fields i (suc zero) = let b = short-name i in omega arith
+  call-fields i (suc (suc zero)) = let b = short-name i in omega arith
+  call-fields i (suc (suc (suc zero))) = let b = few-of i in omega arith
+  call-fields i (suc (suc (suc (suc k)))) = omega arith
+
+  pub call-words : (i : ℕ) → i < 128
+      → spread (wordAt l) 128 (length callFields) marksAt i ≡ map (λ (f : Call → ℕ). f (getD cs i noCall)) callFields
+  unfolding encode entriesOf zeros reach
+  call-words i h =
+      row-words (entriesOf t) rest room callFields 128 cs (forEach parameterFields 256) (columns parameterFields rs) (beforeCalls (entriesOf t)) marksAt (calls-there (entriesOf t)) (calls-start (entriesOf t) room) (omega arith) noCall i (room .calls) h refl (call-fields i)
+
   pub mark-word : (i : ℕ) → i < 128 → wordAt l (marksAt + i) ≡ markWord (getD cs i noCall)
-  unfolding entriesOf sectionsOf
-  mark-word i h =
-      let m : getD (map (λ (x : Call). markWord x) cs) i 0 ≡ markWord (getD cs i noCall) = List·getD-map (λ (x : Call). markWord x) cs i noCall in
-      word 10 i h (rw m (let b = flag-small 1 (getD cs i noCall .second) in omega arith)) ∙ m
+  unfolding spread
+  mark-word i h = ap (λ (ws : List ℕ). getD ws 0 0) (call-words i h)
 
   pub name-start-word : (i : ℕ) → i < 128 → wordAt l (nameStartsAt + i) ≡ (getD cs i noCall) .name .start
-  unfolding entriesOf sectionsOf
-  name-start-word i h =
-      let m : getD (map (λ (x : Call). x .name .start) cs) i 0 ≡ (getD cs i noCall) .name .start = List·getD-map (λ (x : Call). x .name .start) cs i noCall in
-      word 11 i h (rw m (let b = short-name i in omega arith)) ∙ m
+  unfolding spread
+  name-start-word i h = ap (λ (ws : List ℕ). getD ws 1 0) (call-words i h)
 
   pub name-length-word : (i : ℕ) → i < 128 → wordAt l (nameLengthsAt + i) ≡ (getD cs i noCall) .name .len
-  unfolding entriesOf sectionsOf
-  name-length-word i h =
-      let m : getD (map (λ (x : Call). x .name .len) cs) i 0 ≡ (getD cs i noCall) .name .len = List·getD-map (λ (x : Call). x .name .len) cs i noCall in
-      word 12 i h (rw m (let b = short-name i in omega arith)) ∙ m
+  unfolding spread
+  name-length-word i h = ap (λ (ws : List ℕ). getD ws 2 0) (call-words i h)
 
   pub call-parameters-word : (i : ℕ) → i < 128 → wordAt l (callParametersAt + i) ≡ length ((getD cs i noCall) .parameters)
-  unfolding entriesOf sectionsOf
-  call-parameters-word i h =
-      let m : getD (map (λ (x : Call). length (x .parameters)) cs) i 0 ≡ length ((getD cs i noCall) .parameters) = List·getD-map (λ (x : Call). length (x .parameters)) cs i noCall in
-      word 13 i h (rw m (let b = few-of i in omega arith)) ∙ m
+  unfolding spread
+  call-parameters-word i h = ap (λ (ws : List ℕ). getD ws 3 0) (call-words i h)
 
   pub parameters-total : (i : ℕ) → i ≤ length cs → total (wordAt l) callParametersAt i ≡ total (λ q. length (getD cs q noCall .parameters)) 0 i
   parameters-total i h =
@@ -263,13 +279,13 @@ module _ (t : Table) (fit : fitting t ≡ true) (rest : List ℕ) where
       (limits .each) i
 
   pub production-events-word : (i : ℕ) → i < 64 → wordAt l (productionEventsAt + i) ≡ length ((getD ps i noProduction) .events)
-  unfolding entriesOf sectionsOf
+  unfolding entriesOf sectionsOf columns
   production-events-word i h =
       let m : getD (map (λ (x : Production). length (x .events)) ps) i 0 ≡ length ((getD ps i noProduction) .events) = List·getD-map (λ (x : Production). length (x .events)) ps i noProduction in
       word 1 i h (rw m (let b = production-small i .0 in omega arith)) ∙ m
 
   pub production-calls-word : (i : ℕ) → i < 64 → wordAt l (productionCallsAt + i) ≡ length ((getD ps i noProduction) .calls)
-  unfolding entriesOf sectionsOf
+  unfolding entriesOf sectionsOf columns
   production-calls-word i h =
       let m : getD (map (λ (x : Production). length (x .calls)) ps) i 0 ≡ length ((getD ps i noProduction) .calls) = List·getD-map (λ (x : Production). length (x .calls)) ps i noProduction in
       word 2 i h (rw m (let b = production-small i .1 in omega arith)) ∙ m
@@ -302,7 +318,7 @@ module _ (t : Table) (fit : fitting t ≡ true) (rest : List ℕ) where
   -- ---- The header
 
   pub header-word : (k : ℕ) → k < 8 → getD (headerOf t) k 0 < 65536 → wordAt l k ≡ getD (headerOf t) k 0
-  unfolding entriesOf sectionsOf
+  unfolding entriesOf sectionsOf columns
   header-word k h b = ap (wordAt l) (sym (zero-add k)) ∙ word 0 k h b
 
   pub directive-word : wordAt l 0 ≡ directiveWord (t .directive)
@@ -311,7 +327,7 @@ module _ (t : Table) (fit : fitting t ≡ true) (rest : List ℕ) where
 
   pub merged-word : wordAt l 1 ≡ flag 1 (t .merged)
   unfolding headerOf
-  merged-word = header-word 1 (omega arith) (let b = flag-small 1 (t .merged) in omega arith)
+  merged-word = header-word 1 (omega arith) (let b = flag-le 1 (t .merged) in omega arith)
 
   pub first-word : wordAt l 2 ≡ t .firstLength
   unfolding headerOf

@@ -3,19 +3,11 @@ pub mod Lists
 pub mod EventWords
 pub mod Sizes
 pub mod Facts
+pub mod Columns
 pub mod Images
 pub mod Encoded
 pub mod Theorems
-pub mod Checked
-pub mod CheckFacts
-pub mod Decoded
-pub mod Exact
-pub mod LoopLaws
-pub mod Joined
-pub mod Entries
-pub mod Shortcuts
 pub mod Written
-pub mod WholeFacts
 pub mod Positions
 pub mod CallSpans
 pub mod EventsRead
@@ -23,3 +15,4 @@ pub mod JudgedRange
 pub mod CompiledFits
 pub mod AcceptedFits
 pub mod MergedFits
+pub mod Example

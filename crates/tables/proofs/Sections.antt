@@ -56,7 +56,7 @@ read-joined (c ∷ cs) (s ∷ ss) (suc j) i (more q r) h =
     let e : c + offset cs j + i ≡ length (padded c s) + (offset cs j + i) = omega (arith, length-padded c s q) in
     rw e (getD-append-add (padded c s) (joinedSections cs ss) (offset cs j + i) 0 ∙ read-joined cs ss j i r h)
 
-set-right : (a l : List ℕ) (i w : ℕ) → set (a ++ l) (length a + i) w ≡ a ++ set l i w
+pub set-right : (a l : List ℕ) (i w : ℕ) → set (a ++ l) (length a + i) w ≡ a ++ set l i w
 set-right [] l i w = rw zero-add
 set-right (x ∷ xs) l i w = rw suc-add (ap (λ (r : List ℕ). x ∷ r) (set-right xs l i w))
 

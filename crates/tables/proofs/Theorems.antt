@@ -1,5 +1,5 @@
--- What `whole`, `encode` and `decode` are to each other.
-use Prim.Native.Nat.{ℕ, _+_, _-_, _≤_}
+-- What `whole`, `encode` and `decode` are to each other (specs/Laws).
+use Prim.Native.Nat.{ℕ, _-_, _≤_}
 use native.Mathlib.Omega.{arith}
 use mathlib.Core.Path.{_≡_, refl, sym, ap, _∙_}
 use mathlib.Core.List.{List, [], _∷_, _++_, map}
@@ -13,12 +13,13 @@ use Rattle.words.proofs.Bools.{and-left, and-right, and-both}
 use Rattle.words.proofs.Laws.{zeros-add}
 use Rattle.words.proofs.Images.{bytes-zeros}
 use Rattle.model.specs.Lists.{same}
-use Rattle.model.specs.Tables.{Table, emptyTable}
+use Rattle.model.specs.Tables.{Table}
 use Rattle.model.proofs.Sameness.{same-eq}
-use Rattle.tables.specs.Layout.{padded, joinedSections, offset, tableLength, flat, headerOf, entriesOf, sectionsOf, image, encode}
+use Rattle.tables.specs.Layout.{padded, joinedSections, offset, columns, capacities, tableLength, flat, headerOf, entriesOf, sectionsOf, image, encode}
 use Rattle.tables.specs.Reading.{decode}
 use Rattle.tables.specs.Fitting.{fitting}
 use Rattle.tables.specs.Whole.{whole}
+use Rattle.tables.specs.Laws.{DecodeEncode, HoldsTable, WholeHolds, HoldsWhole, HoldsDecode, EncodeEmpty}
 use Rattle.tables.proofs.Images.{length-image}
 use Rattle.tables.proofs.Encoded as encoded
 
@@ -26,8 +27,7 @@ same-refl : (xs : List ℕ) → same xs xs ≡ true
 same-refl [] = refl
 same-refl (x ∷ xs) = and-both (eqb x x) (same xs xs) (eq-eqb x x refl) (same-refl xs)
 
--- a table's bytes read as the table; bytes past them play no part
-pub decode-encode : (t : Table) → fitting t ≡ true → (rest : List ℕ) → decode (encode t ++ rest) ≡ t
+pub decode-encode : DecodeEncode
 decode-encode t fit rest = encoded.decode-encode t fit rest
 
 pub length-encode : (t : Table) → fitting t ≡ true → length (encode t) ≡ tableLength
@@ -41,12 +41,7 @@ whole-encode t fit rest =
     rw (decode-encode t fit rest, take-at (encode t) rest tableLength (length-encode t fit))
     (and-both (fitting t) (same (encode t) (encode t)) fit (same-refl (encode t)))
 
--- bytes begin with the table's
-pub record Holds (t : Table) (l : List ℕ) : Type 0 where
-  pub fits : fitting t ≡ true
-  pub bytes : take tableLength l ≡ encode t
-
-pub whole-holds : (l : List ℕ) → whole l ≡ true → Holds (decode l) l
+pub whole-holds : WholeHolds
 unfolding whole
 whole-holds l e =
     record {
@@ -54,20 +49,18 @@ whole-holds l e =
       bytes = same-eq (take tableLength l) (encode (decode l)) (and-right (fitting (decode l)) (same (take tableLength l) (encode (decode l))) e);
     }
 
-pub holds-split : (t : Table) (l : List ℕ) → Holds t l → l ≡ encode t ++ drop tableLength l
+pub holds-split : (t : Table) (l : List ℕ) → HoldsTable t l → l ≡ encode t ++ drop tableLength l
 holds-split t l h = sym (take-append-drop tableLength l) ∙ ap (λ (a : List ℕ). a ++ drop tableLength l) (h .bytes)
 
--- bytes are whole exactly if they begin with the bytes of a table that fits
-pub holds-whole : (t : Table) (l : List ℕ) → Holds t l → whole l ≡ true
+pub holds-whole : HoldsWhole
 holds-whole t l h = rw (holds-split t l h) (whole-encode t (h .fits) (drop tableLength l))
 
--- and that table is the one that they read as
-pub holds-decode : (t : Table) (l : List ℕ) → Holds t l → decode l ≡ t
+pub holds-decode : HoldsDecode
 holds-decode t l h = rw (holds-split t l h) (decode-encode t (h .fits) (drop tableLength l))
 
 pub whole-length : (l : List ℕ) → whole l ≡ true → tableLength ≤ length l
 whole-length l e =
-    let h : Holds (decode l) l = whole-holds l e in
+    let h : HoldsTable (decode l) l = whole-holds l e in
     omega (arith, ap length (holds-split (decode l) l h), length-append (encode (decode l)) (drop tableLength l), length-encode (decode l) (h .fits))
 
 -- ---- The empty table
@@ -88,12 +81,11 @@ unfolding padded zeros
 header-empty = refl
 
 abbrev afterHeader : List ℕ
-afterHeader = 64 ∷ 64 ∷ 256 ∷ 256 ∷ 256 ∷ 256 ∷ 256 ∷ 256 ∷ 256 ∷ 128 ∷ 128 ∷ 128 ∷ 128 ∷ 256 ∷ 256 ∷ []
+afterHeader = drop 1 capacities
 
 words-empty : padded 8 (0 ∷ 0 ∷ 0 ∷ 0 ∷ 0 ∷ 0 ∷ 0 ∷ 0 ∷ []) ++ joinedSections afterHeader (map (λ c. []) afterHeader) ≡ zeros 2952
 words-empty = rw (header-empty, joined-empty afterHeader) (zeros-add 8 2944)
 
--- "After any other the compiler and merger leave the output table all zero, an empty table."
-pub encode-empty : encode emptyTable ≡ zeros tableLength
-unfolding encode image entriesOf sectionsOf headerOf flat joinedSections
+pub encode-empty : EncodeEmpty
+unfolding encode image entriesOf sectionsOf columns headerOf flat joinedSections
 encode-empty = ap wordBytes words-empty ∙ bytes-zeros 2952

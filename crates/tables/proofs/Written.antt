@@ -1,21 +1,21 @@
 -- What writing one entry does to bytes that hold entries: they hold one entry more.
-use Prim.Native.Nat.{ℕ, zero, suc, _+_, _-_, _≤_, _<_}
+use Prim.Native.Nat.{ℕ, zero, suc, _+_, _≤_, _<_}
 use native.Mathlib.Omega.{arith}
 use mathlib.Core.Path.{_≡_, refl, sym, ap, _∙_}
-use mathlib.Core.List.{List, [], _∷_, _++_, map}
+use mathlib.Core.List.{List, [], _∷_, _++_}
 use mathlib.Core.Bool.{Bool}
-use lib.ListN.{length, getD, set, drop, length-map, length-append}
+use lib.ListN.{length, getD, set, drop, length-append}
 use Rattle.words.specs.Words.{wordBytes, putWord, cleared}
 use Rattle.words.proofs.Images.{put-image, bytes-zeros}
 use Rattle.model.specs.Tables.{Call}
 use Rattle.model.specs.declared.scan.Span.{Span}
 use Rattle.model.specs.declared.events.KeptEvent.{KeptEvent}
 use Rattle.model.specs.declared.events.Directive.{Directive}
-use Rattle.tables.specs.Layout.{Entries, joinedSections, offset, capacities, sectionsOf, image, flag, directiveWord, flagsWord, lowWord, highWord, markWord, tableLength}
-use Rattle.tables.specs.Layout.{productionCallsAt, countsAt, setsAt, clearsAt, flagsAt, lowsAt, highsAt, nameStartsAt, nameLengthsAt, callParametersAt, parameterLengthsAt}
+use Rattle.tables.specs.Layout.{Entries, joinedSections, offset, columns, forEach, eventFields, callFields, parameterFields, capacities, sectionsOf, image, flag, directiveWord, codesAt, marksAt, productionCallsAt, parameterStartsAt, tableLength}
 use Rattle.tables.specs.Writing.{putTest, putDetail, putEvent, putCall, putParameter, putProduction, putTexts, putCounts, noEntries, withEvent, withCall, withParameter, withProduction, withHeader}
 use Rattle.tables.proofs.Sections.{Sized, none, more, length-joined, append-joined, offset-below}
-use Rattle.tables.proofs.Images.{Room, sized}
+use Rattle.tables.proofs.Columns.{putAll, reach}
+use Rattle.tables.proofs.Images.{Room, sized, row-put, beforeEvents, beforeCalls, beforeParameters, events-there, calls-there, parameters-there, events-start, calls-start, parameters-start}
 use Rattle.tables.proofs.Theorems.{joined-empty}
 
 -- ---- One word
@@ -41,89 +41,33 @@ put-section ss rest j n w s e h =
     (omega (arith, length-joined capacities ss s, offset-below capacities j n h))
     ∙ ap (λ (W : List ℕ). wordBytes W ++ rest) (ap (λ (k : ℕ). set (joinedSections capacities ss) (offset capacities j + k) w) (sym e) ∙ append-joined capacities ss j w s q)
 
-map-append-one : {A : Type 0} (f : A → ℕ) (xs : List A) (x : A) → map f (xs ++ (x ∷ [])) ≡ map f xs ++ (f x ∷ [])
-map-append-one f [] x = refl
-map-append-one f (y ∷ ys) x = ap (λ (r : List ℕ). f y ∷ r) (map-append-one f ys x)
-
 -- ---- One entry
 
 module _ (x : Entries) (rest : List ℕ) (room : Room x) where
   pub put-event : (e : KeptEvent) → length (x .events) < 256
       → putEvent (image x ++ rest) (length (x .events)) e ≡ image (withEvent x e) ++ rest
-  unfolding putEvent putTest putDetail image sectionsOf
+  unfolding putEvent putTest putDetail putAll reach image
   put-event e h =
-      let n = length (x .events) in
-      let S0 = sectionsOf x in
-      let Z0 = sized x room in
-      let a0 = put-section S0 rest 3 n (e .code) Z0 (length-map (x .events) (λ (e : KeptEvent). e .code)) h in
-      let Z1 = sized-append capacities S0 3 (e .code) Z0 (let q = length-map (x .events) (λ (e : KeptEvent). e .code) in omega arith) in
-      let S1 = set S0 3 (getD S0 3 [] ++ ((e .code) ∷ [])) in
-      let e0 = a0 in
-      let a1 = put-section S1 rest 4 n (e .count) Z1 (length-map (x .events) (λ (e : KeptEvent). e .count)) h in
-      let Z2 = sized-append capacities S1 4 (e .count) Z1 (let q = length-map (x .events) (λ (e : KeptEvent). e .count) in omega arith) in
-      let S2 = set S1 4 (getD S1 4 [] ++ ((e .count) ∷ [])) in
-      let e1 = ap (λ (l : List ℕ). putWord l (countsAt + n) (e .count)) e0 ∙ a1 in
-      let a2 = put-section S2 rest 5 n (e .set) Z2 (length-map (x .events) (λ (e : KeptEvent). e .set)) h in
-      let Z3 = sized-append capacities S2 5 (e .set) Z2 (let q = length-map (x .events) (λ (e : KeptEvent). e .set) in omega arith) in
-      let S3 = set S2 5 (getD S2 5 [] ++ ((e .set) ∷ [])) in
-      let e2 = ap (λ (l : List ℕ). putWord l (setsAt + n) (e .set)) e1 ∙ a2 in
-      let a3 = put-section S3 rest 6 n (e .clear) Z3 (length-map (x .events) (λ (e : KeptEvent). e .clear)) h in
-      let Z4 = sized-append capacities S3 6 (e .clear) Z3 (let q = length-map (x .events) (λ (e : KeptEvent). e .clear) in omega arith) in
-      let S4 = set S3 6 (getD S3 6 [] ++ ((e .clear) ∷ [])) in
-      let e3 = ap (λ (l : List ℕ). putWord l (clearsAt + n) (e .clear)) e2 ∙ a3 in
-      let a4 = put-section S4 rest 7 n (flagsWord e) Z4 (length-map (x .events) flagsWord) h in
-      let Z5 = sized-append capacities S4 7 (flagsWord e) Z4 (let q = length-map (x .events) flagsWord in omega arith) in
-      let S5 = set S4 7 (getD S4 7 [] ++ ((flagsWord e) ∷ [])) in
-      let e4 = ap (λ (l : List ℕ). putWord l (flagsAt + n) (flagsWord e)) e3 ∙ a4 in
-      let a5 = put-section S5 rest 8 n (lowWord e) Z5 (length-map (x .events) lowWord) h in
-      let Z6 = sized-append capacities S5 8 (lowWord e) Z5 (let q = length-map (x .events) lowWord in omega arith) in
-      let S6 = set S5 8 (getD S5 8 [] ++ ((lowWord e) ∷ [])) in
-      let e5 = ap (λ (l : List ℕ). putWord l (lowsAt + n) (lowWord e)) e4 ∙ a5 in
-      let a6 = put-section S6 rest 9 n (highWord e) Z6 (length-map (x .events) highWord) h in
-      let e6 = ap (λ (l : List ℕ). putWord l (highsAt + n) (highWord e)) e5 ∙ a6 in
-      e6 ∙ rw (map-append-one (λ (e : KeptEvent). e .code) (x .events) e, map-append-one (λ (e : KeptEvent). e .count) (x .events) e, map-append-one (λ (e : KeptEvent). e .set) (x .events) e, map-append-one (λ (e : KeptEvent). e .clear) (x .events) e, map-append-one flagsWord (x .events) e, map-append-one lowWord (x .events) e, map-append-one highWord (x .events) e)
+      row-put x rest room eventFields 256 (x .events) (forEach callFields 128 ++ forEach parameterFields 256) (columns callFields (x .calls) ++ columns parameterFields (x .parameters)) (beforeEvents x) codesAt (events-there x) (events-start x room) (omega arith) e h
+      ∙ ap (λ (W : List ℕ). wordBytes W ++ rest) (sym (events-there (withEvent x e)))
 
   pub put-call : (c : Call) → length (x .calls) < 128
       → putCall (image x ++ rest) (length (x .calls)) (c .second) (c .name) (length (c .parameters)) ≡ image (withCall x c) ++ rest
-  unfolding putCall image sectionsOf
+  unfolding putCall putAll reach image
   put-call c h =
-      let n = length (x .calls) in
-      let S0 = sectionsOf x in
-      let Z0 = sized x room in
-      let a0 = put-section S0 rest 10 n (flag 1 (c .second)) Z0 (length-map (x .calls) markWord) h in
-      let Z1 = sized-append capacities S0 10 (flag 1 (c .second)) Z0 (let q = length-map (x .calls) markWord in omega arith) in
-      let S1 = set S0 10 (getD S0 10 [] ++ ((flag 1 (c .second)) ∷ [])) in
-      let e0 = a0 in
-      let a1 = put-section S1 rest 11 n (c .name .start) Z1 (length-map (x .calls) (λ (c : Call). c .name .start)) h in
-      let Z2 = sized-append capacities S1 11 (c .name .start) Z1 (let q = length-map (x .calls) (λ (c : Call). c .name .start) in omega arith) in
-      let S2 = set S1 11 (getD S1 11 [] ++ ((c .name .start) ∷ [])) in
-      let e1 = ap (λ (l : List ℕ). putWord l (nameStartsAt + n) (c .name .start)) e0 ∙ a1 in
-      let a2 = put-section S2 rest 12 n (c .name .len) Z2 (length-map (x .calls) (λ (c : Call). c .name .len)) h in
-      let Z3 = sized-append capacities S2 12 (c .name .len) Z2 (let q = length-map (x .calls) (λ (c : Call). c .name .len) in omega arith) in
-      let S3 = set S2 12 (getD S2 12 [] ++ ((c .name .len) ∷ [])) in
-      let e2 = ap (λ (l : List ℕ). putWord l (nameLengthsAt + n) (c .name .len)) e1 ∙ a2 in
-      let a3 = put-section S3 rest 13 n (length (c .parameters)) Z3 (length-map (x .calls) (λ (c : Call). length (c .parameters))) h in
-      let e3 = ap (λ (l : List ℕ). putWord l (callParametersAt + n) (length (c .parameters))) e2 ∙ a3 in
-      e3 ∙ rw (map-append-one markWord (x .calls) c, map-append-one (λ (c : Call). c .name .start) (x .calls) c, map-append-one (λ (c : Call). c .name .len) (x .calls) c, map-append-one (λ (c : Call). length (c .parameters)) (x .calls) c)
+      row-put x rest room callFields 128 (x .calls) (forEach parameterFields 256) (columns parameterFields (x .parameters)) (beforeCalls x) marksAt (calls-there x) (calls-start x room) (omega arith) c h
+      ∙ ap (λ (W : List ℕ). wordBytes W ++ rest) (sym (calls-there (withCall x c)))
 
   pub put-parameter : (s : Span) → length (x .parameters) < 256
       → putParameter (image x ++ rest) (length (x .parameters)) s ≡ image (withParameter x s) ++ rest
-  unfolding putParameter image sectionsOf
+  unfolding putParameter putAll reach image
   put-parameter s h =
-      let n = length (x .parameters) in
-      let S0 = sectionsOf x in
-      let Z0 = sized x room in
-      let a0 = put-section S0 rest 14 n (s .start) Z0 (length-map (x .parameters) (λ (s : Span). s .start)) h in
-      let Z1 = sized-append capacities S0 14 (s .start) Z0 (let q = length-map (x .parameters) (λ (s : Span). s .start) in omega arith) in
-      let S1 = set S0 14 (getD S0 14 [] ++ ((s .start) ∷ [])) in
-      let e0 = a0 in
-      let a1 = put-section S1 rest 15 n (s .len) Z1 (length-map (x .parameters) (λ (s : Span). s .len)) h in
-      let e1 = ap (λ (l : List ℕ). putWord l (parameterLengthsAt + n) (s .len)) e0 ∙ a1 in
-      e1 ∙ rw (map-append-one (λ (s : Span). s .start) (x .parameters) s, map-append-one (λ (s : Span). s .len) (x .parameters) s)
+      row-put x rest room parameterFields 256 (x .parameters) [] [] (beforeParameters x) parameterStartsAt (parameters-there x) (parameters-start x room) (omega arith) s h
+      ∙ ap (λ (W : List ℕ). wordBytes W ++ rest) (sym (parameters-there (withParameter x s)))
 
   pub put-production : (events calls : ℕ) → length (x .productionCalls) ≡ length (x .productionEvents) → length (x .productionEvents) < 64
       → putProduction (image x ++ rest) (length (x .productionEvents)) events calls ≡ image (withProduction x events calls) ++ rest
-  unfolding putProduction image sectionsOf
+  unfolding putProduction image sectionsOf columns
   put-production events calls same h =
       let n = length (x .productionEvents) in
       let S0 = sectionsOf x in
@@ -155,7 +99,7 @@ module _ (x : Entries) (rest : List ℕ) (room : Room x) where
   pub put-header : (d : Directive) (m : Bool) (first second ps es cs rs : ℕ)
       → putCounts (putTexts (image (withHeader x []) ++ rest) d m first second) ps es cs rs
       ≡ image (withHeader x (directiveWord d ∷ flag 1 m ∷ first ∷ second ∷ ps ∷ es ∷ cs ∷ rs ∷ [])) ++ rest
-  unfolding putTexts putCounts image sectionsOf
+  unfolding putTexts putCounts image sectionsOf columns
   put-header d m first second ps es cs rs =
       let S0 = sectionsOf bare in
       let Z0 = sized bare bare-room in
@@ -195,7 +139,7 @@ module _ (x : Entries) (rest : List ℕ) (room : Room x) where
 
 -- a cleared buffer holds none
 pub cleared-holds : (l : List ℕ) → cleared tableLength l ≡ image noEntries ++ drop tableLength l
-unfolding cleared image sectionsOf
+unfolding cleared image sectionsOf columns
 cleared-holds l =
     ap (λ (a : List ℕ). a ++ drop tableLength l) (sym (ap wordBytes (joined-empty capacities) ∙ bytes-zeros 2952))
 

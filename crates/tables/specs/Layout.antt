@@ -1,5 +1,31 @@
 -- The layout of a table in lent bytes: 2,952 words of 16 bits, the lower byte first, in sections by field. Nothing but this
--- crate knows where a word stands.
+-- crate and those of the check knows where a word stands. A table of two lines (proofs/Example computes its sections):
+--
+--     Ctrl<Key>a: f(x)
+--     <Btn1Down>: g()
+--
+--     words       section                        entries
+--        0 ..     header                         0 0 32 0 2 2 2 1: the directive, whether it is merged, the lengths of the
+--                                                texts, how many productions, events, calls and parameters
+--        8 ..     events of each production      1 1
+--       72 ..     calls of each production       1 1
+--      136 ..     codes                          2 4      a key press, a button press
+--      392 ..     counts                         1 1
+--      648 ..     bits asked set                 4 0      Control
+--      904 ..     bits asked clear               0 0
+--     1160 ..     flags                          4 4      a detail is given
+--     1416 ..     details, lower words           97 1     the keysym a, button 1
+--     1672 ..     details, upper words           0 0
+--     1928 ..     marks                          0 0      of the first text
+--     2056 ..     names: where they start        12 29    f, g
+--     2184 ..     names: their lengths           1 1
+--     2312 ..     parameters of each call        1 0
+--     2440 ..     parameters: where they start   14       x
+--     2696 ..     parameters: their lengths      1
+--
+-- A section has room for the most entries that a table may have, and its unused words are 0. Entry i of a field stands at the
+-- section's first word plus i. Which parameters are a call's, and which calls and events are a production's, follows from how
+-- many those before it have: the second call's parameters begin past the first one's.
 use Prim.Native.Nat.{ℕ, zero, suc, _+_, _-_, _/_, _%_}
 use mathlib.Core.Bool.{Bool, cond}
 use mathlib.Core.List.{List, [], _∷_, _++_, map}
@@ -30,16 +56,6 @@ offset (c ∷ cs) zero = 0
 offset (c ∷ cs) (suc j) = c + offset cs j
 
 -- ---- The sections of a table
-
--- the header; two fields of productions; seven of events; four of calls; two of parameters
-abbrev pub capacities : List ℕ
-capacities =
-    8
-    ∷ 64 ∷ 64
-    ∷ 256 ∷ 256 ∷ 256 ∷ 256 ∷ 256 ∷ 256 ∷ 256
-    ∷ 128 ∷ 128 ∷ 128 ∷ 128
-    ∷ 256 ∷ 256
-    ∷ []
 
 -- the first word of each section: `offset capacities` 0 to 15
 
@@ -88,9 +104,6 @@ parameterStartsAt = 2440
 abbrev pub parameterLengthsAt : ℕ
 parameterLengthsAt = 2696
 
-abbrev pub tableWords : ℕ
-tableWords = 2952
-
 -- the length of a table in bytes, the same for all content
 abbrev pub tableLength : ℕ
 tableLength = 5904
@@ -126,6 +139,47 @@ highWord e = valueOf (e .detail) / 65536
 -- 0 the first text, 1 the second
 abbrev pub markWord : Call → ℕ
 markWord c = flag 1 (c .second)
+
+-- ---- Fields: each has a section of its own
+
+-- an event's
+abbrev pub eventFields : List (KeptEvent → ℕ)
+eventFields =
+    (λ (e : KeptEvent). e .code)
+    ∷ (λ (e : KeptEvent). e .count)
+    ∷ (λ (e : KeptEvent). e .set)
+    ∷ (λ (e : KeptEvent). e .clear)
+    ∷ flagsWord
+    ∷ lowWord
+    ∷ highWord
+    ∷ []
+
+-- a call's
+abbrev pub callFields : List (Call → ℕ)
+callFields =
+    markWord
+    ∷ (λ (c : Call). c .name .start)
+    ∷ (λ (c : Call). c .name .len)
+    ∷ (λ (c : Call). length (c .parameters))
+    ∷ []
+
+-- a parameter's
+abbrev pub parameterFields : List (Span → ℕ)
+parameterFields = (λ (s : Span). s .start) ∷ (λ (s : Span). s .len) ∷ []
+
+module _ {A : Type 0} where
+  -- the sections of some fields of entries
+  unfoldable pub columns : List (A → ℕ) → List A → List (List ℕ)
+  columns [] xs = []
+  columns (f ∷ fs) xs = map f xs ∷ columns fs xs
+
+  -- a capacity for each field
+  abbrev pub forEach : List (A → ℕ) → ℕ → List ℕ
+  forEach fs c = map (λ (f : A → ℕ). c) fs
+
+-- the header; two fields of productions; those of events, of calls and of parameters
+abbrev pub capacities : List ℕ
+capacities = 8 ∷ 64 ∷ 64 ∷ (forEach eventFields 256 ++ (forEach callFields 128 ++ forEach parameterFields 256))
 
 -- ---- A table's entries in production order, with no nesting
 
@@ -183,20 +237,7 @@ sectionsOf x =
     x .header
     ∷ x .productionEvents
     ∷ x .productionCalls
-    ∷ map (λ (e : KeptEvent). e .code) (x .events)
-    ∷ map (λ (e : KeptEvent). e .count) (x .events)
-    ∷ map (λ (e : KeptEvent). e .set) (x .events)
-    ∷ map (λ (e : KeptEvent). e .clear) (x .events)
-    ∷ map flagsWord (x .events)
-    ∷ map lowWord (x .events)
-    ∷ map highWord (x .events)
-    ∷ map markWord (x .calls)
-    ∷ map (λ (c : Call). c .name .start) (x .calls)
-    ∷ map (λ (c : Call). c .name .len) (x .calls)
-    ∷ map (λ (c : Call). length (c .parameters)) (x .calls)
-    ∷ map (λ (s : Span). s .start) (x .parameters)
-    ∷ map (λ (s : Span). s .len) (x .parameters)
-    ∷ []
+    ∷ (columns eventFields (x .events) ++ (columns callFields (x .calls) ++ columns parameterFields (x .parameters)))
 
 -- entries as bytes
 unfoldable pub image : Entries → List ℕ

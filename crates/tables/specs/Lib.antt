@@ -3,4 +3,4 @@ pub mod Reading
 pub mod Writing
 pub mod Fitting
 pub mod Whole
-pub mod Checks
+pub mod Laws

@@ -1,5 +1,4 @@
 // A table in lent bytes. docs/LAYOUT.md says where each word stands, and in code the module `places` alone does.
-pub mod check;
 pub mod places;
 pub mod read;
 pub mod write;

@@ -2,7 +2,7 @@
 use Prim.Native.Nat.{ℕ, zero, suc, _+_, _-_, _*_, _≤_, _<_}
 use native.Mathlib.Omega.{arith}
 use native.Mathlib.Numerals.{add-one}
-use native.Mathlib.Nat.{zero-add, suc-add, add-zero, add-suc, suc-mul}
+use native.Mathlib.Nat.{zero-add, suc-add, add-zero, add-suc, suc-mul, mod-eq-of-lt}
 use mathlib.Core.Path.{_≡_, refl, sym, ap, _∙_}
 use mathlib.Core.List.{List, [], _∷_, _++_, map}
 use mathlib.Core.Bool.{Bool, true, false, _&&_, and-true, and-assoc}
@@ -10,7 +10,8 @@ use lib.Dec.{eqb}
 use lib.ListN.{length, getD}
 use lib.Seq.{ext-getD}
 use borrow.Author.Tests.{eqb-true, eqb-false}
-use Rattle.words.specs.Runs.{every, total, run}
+use Rattle.words.specs.Words.{wordAt}
+use Rattle.words.specs.Runs.{every, total, run, lowAt}
 use Rattle.words.proofs.Bools.{and-left, and-right, and-both}
 
 -- ---- Tests
@@ -212,3 +213,8 @@ pub map-run : {A B : Type 0} (g : A → B) (f : ℕ → A) (s n : ℕ) → map g
 unfolding run
 map-run g f s zero = refl
 map-run {A} {B} g f s (suc n) = ap (λ (r : List B). g (f s) ∷ r) (map-run g f (suc s) n)
+
+-- the sum of the lower bytes of words that have no other
+pub low-total : (l : List ℕ) (s n : ℕ) → ((i : ℕ) → i < n → wordAt l (s + i) < 256) → total (lowAt l) s n ≡ total (wordAt l) s n
+unfolding lowAt
+low-total l s n b = total-same (lowAt l) (wordAt l) s s n (λ i h. mod-eq-of-lt (b i h))

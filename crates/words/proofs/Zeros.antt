@@ -2,12 +2,12 @@
 use Prim.Native.Nat.{ℕ, zero, suc, _+_, _-_, _^_, _≤_, _<_}
 use native.Mathlib.Omega.{arith}
 use native.Mathlib.Nat.{zero-add}
-use mathlib.Core.Path.{_≡_, refl, sym, ap, _∙_}
+use mathlib.Core.Path.{_≡_, refl, ap, _∙_}
 use mathlib.Core.List.{List}
 use mathlib.Core.Bool.{Bool, true, false, _&&_, and-assoc, and-self}
-use lib.Dec.{eqb, ltb}
-use lib.Bits.{bitOr, bitAnd, or-add-and, or-lt, and-le-l, and-le-r}
-use borrow.Author.Tests.{eqb-true, eq-eqb, lt-ltb, ltb-true, ltb-false}
+use lib.Dec.{leb, eqb, ltb}
+use lib.Bits.{bitOr, or-add-and, or-lt, and-le-l, and-le-r}
+use borrow.Author.Tests.{leb-true, le-leb, eqb-true, eq-eqb, lt-ltb, ltb-true, ltb-false}
 use Rattle.words.specs.Runs.{every, isZero, threeZero, fourZero}
 use Rattle.words.proofs.Bools.{and-left, and-right, and-both, same-test}
 use Rattle.words.proofs.RunLaws.{every-at, every-all, every-shift}
@@ -173,3 +173,10 @@ two-same l n a b =
     every-four l n a b a b
     ∙ and-assoc (zeroFrom l a n && zeroFrom l b n) (zeroFrom l a n) (zeroFrom l b n)
     ∙ and-self (zeroFrom l a n && zeroFrom l b n)
+
+-- a number is within its bound where it is above it by 0
+pub within-bound : (x most : ℕ) → eqb (x - most) 0 ≡ leb x most
+within-bound x most =
+    same-test (eqb (x - most) 0) (leb x most)
+    (λ e. let z = eqb-true (x - most) 0 e in le-leb x most (omega arith))
+    (λ e. let z = leb-true x most e in eq-eqb (x - most) 0 (omega arith))

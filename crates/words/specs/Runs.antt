@@ -1,5 +1,5 @@
 -- What holds, adds up or is listed over a run of numbers: n of them, from s on.
-use Prim.Native.Nat.{ℕ, zero, suc, _+_}
+use Prim.Native.Nat.{ℕ, zero, suc, _+_, _%_}
 use mathlib.Core.Bool.{Bool, true, _&&_}
 use mathlib.Core.List.{List, [], _∷_}
 use lib.Dec.{eqb}
@@ -32,3 +32,7 @@ threeZero l a b c i = isZero l (a + i) && isZero l (b + i) && isZero l (c + i)
 -- the words at a number past four places are 0
 unfoldable pub fourZero : List ℕ → (a b c d : ℕ) → ℕ → Bool
 fourZero l a b c d i = isZero l (a + i) && isZero l (b + i) && isZero l (c + i) && isZero l (d + i)
+
+-- the lower byte of word k
+unfoldable pub lowAt : List ℕ → ℕ → ℕ
+lowAt l k = wordAt l k % 256

@@ -1,7 +1,7 @@
 // Words of 16 bits in lent bytes: two bytes each, the lower first.
 ghost use mathlib.Core.Path.{_≡_};
 ghost use mathlib.Core.Bool.{_&&_};
-ghost use Prim.Native.Nat.{_+_, _*_, _≤_, _<_};
+ghost use Prim.Native.Nat.{_+_, _-_, _*_, _≤_, _<_};
 ghost use lib.ListN.{length};
 ghost use Rattle.words.specs.Words.{wordAt, putWord, cleared};
 ghost use Rattle.words.specs.Runs.{every, total, isZero, threeZero, fourZero};
@@ -133,4 +133,13 @@ pub fn sum(l: &[u8], k: usize, n: usize) -> u32
         i += 1;
     }
     s
+}
+
+// ---- Bounds
+
+// How far a number is above another.
+pub fn excess(x: u16, most: u16) -> u16
+    ensures { λ r. ⌜ r ≡ x - most ⌝ }
+{
+    if most < x { x - most } else { 0 }
 }

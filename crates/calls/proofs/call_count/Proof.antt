@@ -4,7 +4,7 @@ use native.Mathlib.Omega.{arith}
 use mathlib.Core.Path.{_≡_, sym, _∙_}
 use Rattle.tables.proofs.Theorems.{whole-length}
 use Rattle.calls.specs.Refusals.{tableRefusal}
-use Rattle.calls.proofs.Orders.{table-whole, count-refused}
+use Rattle.calls.proofs.Orders.{table-whole, count-refused, counted}
 use Rattle.calls.proofs.Asked.{productions-below}
 use Rattle.calls.proofs.Answered.{calls-answer, calls-absent}
 use Rattle.calls.proofs.call_count.Statement.{statement}
@@ -14,7 +14,7 @@ table-refusal-requires : tie.Need-table-refusal-requires
 table-refusal-requires c κs = search needs
 
 returns : tie.Need-returns
-returns c = count-refused (c .before .before .before .args .table .now) _ (c .before .table-refusal .result) (c .before .table-refusal .ensures) (λ e. omega arith)
+returns c = counted _ _ _ (count-refused (c .before .before .before .args .table .now) _ (c .before .table-refusal .result) (c .before .table-refusal .ensures) (λ e. omega arith))
 
 production-count-requires : tie.Need-production-count-requires
 production-count-requires c κs =
@@ -25,7 +25,7 @@ returns-2 : tie.Need-returns-2
 returns-2 c =
     let z : tableRefusal (c .before .before .before .before .before .args .table .now) ≡ 0 = sym (c .before .before .before .table-refusal .ensures) ∙ omega arith in
     let e = c .before .production-count .ensures in
-    calls-absent (c .before .before .before .before .before .args .table .now) z (c .before .before .before .before .before .args .production) (omega arith)
+    counted _ _ _ (calls-absent (c .before .before .before .before .before .args .table .now) z (c .before .before .before .before .before .args .production) (omega arith))
 
 production-calls-requires : tie.Need-production-calls-requires
 production-calls-requires c κs =
@@ -37,7 +37,7 @@ returns-3 : tie.Need-returns-3
 returns-3 c =
     let z : tableRefusal (c .before .before .before .before .before .before .args .table .now) ≡ 0 = sym (c .before .before .before .before .table-refusal .ensures) ∙ omega arith in
     let e = c .before .before .production-count .ensures in
-    rw (c .production-calls .ensures) (calls-answer (c .before .before .before .before .before .before .args .table .now) z (c .before .before .before .before .before .before .args .production) (omega arith))
+    counted _ _ _ (rw (c .production-calls .ensures) (calls-answer (c .before .before .before .before .before .before .args .table .now) z (c .before .before .before .before .before .before .args .production) (omega arith)))
 
 pub call-count-spec : {M : Type 1} → statement M
 call-count-spec =

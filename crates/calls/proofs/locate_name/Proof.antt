@@ -9,7 +9,7 @@ use Rattle.tables.specs.Whole.{whole}
 use Rattle.calls.specs.declared.Place.{Place}
 use Rattle.calls.specs.Refusals.{lentRefusal}
 use Rattle.calls.specs.Places.{placeOf}
-use Rattle.calls.proofs.Orders.{lent-whole, place-refused}
+use Rattle.calls.proofs.Orders.{lent-whole, place-refused, answered}
 use Rattle.calls.proofs.Asked.{calls-below, place-below}
 use Rattle.calls.proofs.Answered.{name-answer, name-absent}
 use Rattle.calls.proofs.locate_name.Statement.{statement}
@@ -33,7 +33,7 @@ lent-refusal-requires : tie.Need-lent-refusal-requires
 lent-refusal-requires c κs = search needs
 
 returns : tie.Need-returns
-returns c = place-refused (c .before .before .before .before .before .args .table .now) (c .before .before .before .before .before .args .first .now) (c .before .before .before .before .before .args .second .now) _ (c .before .lent-refusal .result) (c .before .lent-refusal .ensures) (λ e. omega arith)
+returns c = answered _ _ _ _ _ (place-refused (c .before .before .before .before .before .args .table .now) (c .before .before .before .before .before .args .first .now) (c .before .before .before .before .before .args .second .now) _ (c .before .lent-refusal .result) (c .before .lent-refusal .ensures) (λ e. omega arith))
 
 find-call-requires : tie.Need-find-call-requires
 find-call-requires c κs =
@@ -58,13 +58,13 @@ in-text-requires c κs = search needs
 returns-2 : tie.Need-returns-2
 returns-2 c =
     let z : lentRefusal (c .before .before .before .before .before .before .before .before .args .table .now) (c .before .before .before .before .before .before .before .before .args .first .now) (c .before .before .before .before .before .before .before .before .args .second .now) ≡ 0 = sym (c .before .before .before .before .lent-refusal .ensures) ∙ omega arith in
-    name-absent (c .before .before .before .before .before .before .before .before .args .table .now) (c .before .before .before .before .before .before .before .before .args .first .now) (c .before .before .before .before .before .before .before .before .args .second .now) z (c .before .before .before .before .before .before .before .before .args .production) (c .before .before .before .before .before .before .before .before .args .call) (sym (c .before .before .find-call .ensures) ∙ c .enum-told .given .1)
+    answered _ _ _ _ _ (name-absent (c .before .before .before .before .before .before .before .before .args .table .now) (c .before .before .before .before .before .before .before .before .args .first .now) (c .before .before .before .before .before .before .before .before .args .second .now) z (c .before .before .before .before .before .before .before .before .args .production) (c .before .before .before .before .before .before .before .before .args .call) (sym (c .before .before .find-call .ensures) ∙ c .enum-told .given .1))
 
 returns-3 : tie.Need-returns-3
 returns-3 c =
-    c .in-text .ensures
+    answered _ _ _ _ _ (c .in-text .ensures
     ∙ rw (c .before .before .call-mark .ensures, c .before .call-name .ensures)
-    (name-answer (c .before .before .before .before .before .before .before .before .before .before .before .before .args .table .now) (c .before .before .before .before .before .before .before .before .before .before .before .before .args .first .now) (c .before .before .before .before .before .before .before .before .before .before .before .before .args .second .now) (passed (c .before .before .before)) (c .before .before .before .before .before .before .before .before .before .before .before .before .args .production) (c .before .before .before .before .before .before .before .before .before .before .before .before .args .call) (c .before .before .before .before .place .given .0 .0) (found (c .before .before .before)))
+    (name-answer (c .before .before .before .before .before .before .before .before .before .before .before .before .args .table .now) (c .before .before .before .before .before .before .before .before .before .before .before .before .args .first .now) (c .before .before .before .before .before .before .before .before .before .before .before .before .args .second .now) (passed (c .before .before .before)) (c .before .before .before .before .before .before .before .before .before .before .before .before .args .production) (c .before .before .before .before .before .before .before .before .before .before .before .before .args .call) (c .before .before .before .before .place .given .0 .0) (found (c .before .before .before))))
 
 pub locate-name-spec : {M : Type 1} → statement M
 locate-name-spec =

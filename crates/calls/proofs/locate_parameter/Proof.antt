@@ -10,7 +10,7 @@ use Rattle.tables.specs.Reading.{callTotal, callParameters, firstParameter}
 use Rattle.calls.specs.declared.Place.{Place}
 use Rattle.calls.specs.Refusals.{lentRefusal}
 use Rattle.calls.specs.Places.{placeOf}
-use Rattle.calls.proofs.Orders.{lent-whole, place-refused}
+use Rattle.calls.proofs.Orders.{lent-whole, place-refused, answered}
 use Rattle.calls.proofs.Asked.{calls-below, place-below, parameter-below}
 use Rattle.calls.proofs.Answered.{parameter-answer, parameter-absent, parameter-no-call}
 use Rattle.calls.proofs.locate_parameter.Statement.{statement}
@@ -44,7 +44,7 @@ lent-refusal-requires : tie.Need-lent-refusal-requires
 lent-refusal-requires c κs = search needs
 
 returns : tie.Need-returns
-returns c = place-refused (c .before .before .before .before .before .args .table .now) (c .before .before .before .before .before .args .first .now) (c .before .before .before .before .before .args .second .now) _ (c .before .lent-refusal .result) (c .before .lent-refusal .ensures) (λ e. omega arith)
+returns c = answered _ _ _ _ _ (place-refused (c .before .before .before .before .before .args .table .now) (c .before .before .before .before .before .args .first .now) (c .before .before .before .before .before .args .second .now) _ (c .before .lent-refusal .result) (c .before .lent-refusal .ensures) (λ e. omega arith))
 
 find-call-requires : tie.Need-find-call-requires
 find-call-requires c κs =
@@ -63,7 +63,7 @@ call-parameters-requires c κs = (whole-length (c .before .before .before .befor
 returns-2 : tie.Need-returns-2
 returns-2 c =
     let e = c .before .call-parameters .ensures in
-    parameter-absent (c .before .before .before .before .before .before .before .before .before .before .before .args .table .now) (c .before .before .before .before .before .before .before .before .before .before .before .args .first .now) (c .before .before .before .before .before .before .before .before .before .before .before .args .second .now) (passed (c .before .before)) (c .before .before .before .before .before .before .before .before .before .before .before .args .production) (c .before .before .before .before .before .before .before .before .before .before .before .args .call) (c .before .before .before .place .given .0 .0) (c .before .before .before .before .before .before .before .before .before .before .before .args .parameter) (found (c .before .before)) (omega arith)
+    answered _ _ _ _ _ (parameter-absent (c .before .before .before .before .before .before .before .before .before .before .before .args .table .now) (c .before .before .before .before .before .before .before .before .before .before .before .args .first .now) (c .before .before .before .before .before .before .before .before .before .before .before .args .second .now) (passed (c .before .before)) (c .before .before .before .before .before .before .before .before .before .before .before .args .production) (c .before .before .before .before .before .before .before .before .before .before .before .args .call) (c .before .before .before .place .given .0 .0) (c .before .before .before .before .before .before .before .before .before .before .before .args .parameter) (found (c .before .before)) (omega arith))
 
 parameters-from-requires : tie.Need-parameters-from-requires
 parameters-from-requires c κs =
@@ -91,13 +91,13 @@ in-text-requires c κs = search needs
 returns-3 : tie.Need-returns-3
 returns-3 c =
     let z : lentRefusal (c .before .before .before .before .before .before .before .before .args .table .now) (c .before .before .before .before .before .before .before .before .args .first .now) (c .before .before .before .before .before .before .before .before .args .second .now) ≡ 0 = sym (c .before .before .before .before .lent-refusal .ensures) ∙ omega arith in
-    parameter-no-call (c .before .before .before .before .before .before .before .before .args .table .now) (c .before .before .before .before .before .before .before .before .args .first .now) (c .before .before .before .before .before .before .before .before .args .second .now) z (c .before .before .before .before .before .before .before .before .args .production) (c .before .before .before .before .before .before .before .before .args .call) (c .before .before .before .before .before .before .before .before .args .parameter) (sym (c .before .before .find-call .ensures) ∙ c .enum-told .given .1)
+    answered _ _ _ _ _ (parameter-no-call (c .before .before .before .before .before .before .before .before .args .table .now) (c .before .before .before .before .before .before .before .before .args .first .now) (c .before .before .before .before .before .before .before .before .args .second .now) z (c .before .before .before .before .before .before .before .before .args .production) (c .before .before .before .before .before .before .before .before .args .call) (c .before .before .before .before .before .before .before .before .args .parameter) (sym (c .before .before .find-call .ensures) ∙ c .enum-told .given .1))
 
 returns-4 : tie.Need-returns-4
 returns-4 c =
-    c .in-text .ensures
+    answered _ _ _ _ _ (c .in-text .ensures
     ∙ rw (c .before .before .call-mark .ensures, c .before .parameter-span .ensures, c .before .before .before .parameters-from .ensures)
-    (parameter-answer (c .before .before .before .before .before .before .before .before .before .before .before .before .before .before .before .args .table .now) (c .before .before .before .before .before .before .before .before .before .before .before .before .before .before .before .args .first .now) (c .before .before .before .before .before .before .before .before .before .before .before .before .before .before .before .args .second .now) (passed (c .before .before .before .before .before .before)) (c .before .before .before .before .before .before .before .before .before .before .before .before .before .before .before .args .production) (c .before .before .before .before .before .before .before .before .before .before .before .before .before .before .before .args .call) (c .before .before .before .before .before .before .before .place .given .0 .0) (c .before .before .before .before .before .before .before .before .before .before .before .before .before .before .before .args .parameter) (found (c .before .before .before .before .before .before)) (in-call (c .before .before .before)))
+    (parameter-answer (c .before .before .before .before .before .before .before .before .before .before .before .before .before .before .before .args .table .now) (c .before .before .before .before .before .before .before .before .before .before .before .before .before .before .before .args .first .now) (c .before .before .before .before .before .before .before .before .before .before .before .before .before .before .before .args .second .now) (passed (c .before .before .before .before .before .before)) (c .before .before .before .before .before .before .before .before .before .before .before .before .before .before .before .args .production) (c .before .before .before .before .before .before .before .before .before .before .before .before .before .before .before .args .call) (c .before .before .before .before .before .before .before .place .given .0 .0) (c .before .before .before .before .before .before .before .before .before .before .before .before .before .before .before .args .parameter) (found (c .before .before .before .before .before .before)) (in-call (c .before .before .before))))
 
 pub locate-parameter-spec : {M : Type 1} → statement M
 locate-parameter-spec =

@@ -10,11 +10,11 @@ locate-parameter-requires : tie.Need-locate-parameter-requires
 locate-parameter-requires c κs = search needs
 
 part-requires : tie.Need-part-requires
-part-requires c κs = rw (c .locate-parameter .ensures) (parameter-answer-within (c .before .before .before .before .args .table .now) (c .before .before .before .before .args .first .now) (c .before .before .before .before .args .second .now) (c .before .before .before .before .args .production) (c .before .before .before .before .args .call) (c .before .before .before .before .args .parameter))
+part-requires c κs = rw (c .locate-parameter .ensures .0) (parameter-answer-within (c .before .before .before .before .args .table .now) (c .before .before .before .before .args .first .now) (c .before .before .before .before .args .second .now) (c .before .before .before .before .args .production) (c .before .before .before .before .args .call) (c .before .before .before .before .args .parameter))
 
 returns : tie.Need-returns
 returns c =
-    subst (IsPart (c .before .before .before .before .before .args .first) (c .before .before .before .before .before .args .second) (c .part .result)) (c .before .locate-parameter .ensures) (c .part .ensures)
+    subst (IsPart (c .before .before .before .before .before .args .first) (c .before .before .before .before .before .args .second) (c .part .result)) (c .before .locate-parameter .ensures .0) (c .part .ensures)
 
 pub parameter-spec : {M : Type 1} → statement M
 parameter-spec = tie.close (tie.spec locate-parameter-requires part-requires returns)

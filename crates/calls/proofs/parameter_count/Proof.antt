@@ -8,7 +8,7 @@ use Rattle.tables.specs.Whole.{whole}
 use Rattle.calls.specs.declared.Place.{Place}
 use Rattle.calls.specs.Refusals.{tableRefusal}
 use Rattle.calls.specs.Places.{placeOf}
-use Rattle.calls.proofs.Orders.{table-whole, count-refused}
+use Rattle.calls.proofs.Orders.{table-whole, count-refused, counted}
 use Rattle.calls.proofs.Asked.{calls-below, place-below}
 use Rattle.calls.proofs.Answered.{parameters-answer, parameters-absent}
 use Rattle.calls.proofs.parameter_count.Statement.{statement}
@@ -28,7 +28,7 @@ table-refusal-requires : tie.Need-table-refusal-requires
 table-refusal-requires c κs = search needs
 
 returns : tie.Need-returns
-returns c = count-refused (c .before .before .before .args .table .now) _ (c .before .table-refusal .result) (c .before .table-refusal .ensures) (λ e. omega arith)
+returns c = counted _ _ _ (count-refused (c .before .before .before .args .table .now) _ (c .before .table-refusal .result) (c .before .table-refusal .ensures) (λ e. omega arith))
 
 find-call-requires : tie.Need-find-call-requires
 find-call-requires c κs =
@@ -47,10 +47,10 @@ call-parameters-requires c κs = (whole-length (c .before .before .before .befor
 returns-2 : tie.Need-returns-2
 returns-2 c =
     let z : tableRefusal (c .before .before .before .before .before .before .args .table .now) ≡ 0 = sym (c .before .before .before .before .table-refusal .ensures) ∙ omega arith in
-    parameters-absent (c .before .before .before .before .before .before .args .table .now) z (c .before .before .before .before .before .before .args .production) (c .before .before .before .before .before .before .args .call) (sym (c .before .before .find-call .ensures) ∙ c .enum-told .given .1)
+    counted _ _ _ (parameters-absent (c .before .before .before .before .before .before .args .table .now) z (c .before .before .before .before .before .before .args .production) (c .before .before .before .before .before .before .args .call) (sym (c .before .before .find-call .ensures) ∙ c .enum-told .given .1))
 
 returns-3 : tie.Need-returns-3
-returns-3 c = rw (c .call-parameters .ensures) (parameters-answer (c .before .before .before .before .before .before .before .before .args .table .now) (passed (c .before)) (c .before .before .before .before .before .before .before .before .args .production) (c .before .before .before .before .before .before .before .before .args .call) (c .before .before .place .given .0 .0) (found (c .before)))
+returns-3 c = counted _ _ _ (rw (c .call-parameters .ensures) (parameters-answer (c .before .before .before .before .before .before .before .before .args .table .now) (passed (c .before)) (c .before .before .before .before .before .before .before .before .args .production) (c .before .before .before .before .before .before .before .before .args .call) (c .before .before .place .given .0 .0) (found (c .before))))
 
 pub parameter-count-spec : {M : Type 1} → statement M
 parameter-count-spec =

@@ -13,10 +13,10 @@ call-count-requires : tie.Need-call-count-requires
 call-count-requires c κs = search needs
 
 counted-word-requires : tie.Need-counted-word-requires
-counted-word-requires c κs = subst (λ (a : Counted). countedCount a ≤ 64) (sym (c .call-count .ensures)) (calls-small _ _)
+counted-word-requires c κs = subst (λ (a : Counted). countedCount a ≤ 64) (sym (c .call-count .ensures .0)) (calls-small _ _)
 
 returns : tie.Need-returns
-returns c = c .counted-word .ensures ∙ ap countedWord (c .before .call-count .ensures)
+returns c = c .counted-word .ensures ∙ ap countedWord (c .before .call-count .ensures .0)
 
 pub tt-calls-spec : {M : Type 1} → statement M
 tt-calls-spec = tie.close (tie.spec call-count-requires counted-word-requires returns)

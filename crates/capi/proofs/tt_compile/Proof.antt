@@ -19,7 +19,7 @@ same-length : tie.Need-same-length
 same-length c = search needs
 
 returns : tie.Need-returns
-returns c = (c .compiled-word .ensures ∙ ap compiledWord (c .before .before .before .compile .ensures .0), c .before .before .before .compile .ensures .1)
+returns c = (c .compiled-word .ensures ∙ ap compiledWord (c .before .before .before .compile .ensures .0), c .before .before .before .compile .ensures .1 .0)
 
 pub tt-compile-spec : {M : Type 1} → statement M
 tt-compile-spec = tie.close (tie.spec compile-requires compiled-word-requires same-length returns)

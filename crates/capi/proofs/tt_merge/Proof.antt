@@ -15,7 +15,7 @@ same-length : tie.Need-same-length
 same-length c = search needs
 
 returns : tie.Need-returns
-returns c = (c .merged-word .ensures ∙ ap mergedWord (c .before .before .before .merge .ensures .0), c .before .before .before .merge .ensures .1)
+returns c = (c .merged-word .ensures ∙ ap mergedWord (c .before .before .before .merge .ensures .0), c .before .before .before .merge .ensures .1 .1)
 
 pub tt-merge-spec : {M : Type 1} → statement M
 tt-merge-spec = tie.close (tie.spec merge-requires merged-word-requires same-length returns)

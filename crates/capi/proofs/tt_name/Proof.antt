@@ -13,10 +13,10 @@ locate-name-requires : tie.Need-locate-name-requires
 locate-name-requires c κs = search needs
 
 located-word-requires : tie.Need-located-word-requires
-located-word-requires c κs = subst (λ (a : Located). locatedStart a + locatedLength a ≤ 8192) (sym (c .locate-name .ensures)) (name-short _ _ _ _ _)
+located-word-requires c κs = subst (λ (a : Located). locatedStart a + locatedLength a ≤ 8192) (sym (c .locate-name .ensures .0)) (name-short _ _ _ _ _)
 
 returns : tie.Need-returns
-returns c = c .located-word .ensures ∙ ap locatedWord (c .before .locate-name .ensures)
+returns c = c .located-word .ensures ∙ ap locatedWord (c .before .locate-name .ensures .0)
 
 pub tt-name-spec : {M : Type 1} → statement M
 tt-name-spec = tie.close (tie.spec locate-name-requires located-word-requires returns)

@@ -13,10 +13,10 @@ locate-parameter-requires : tie.Need-locate-parameter-requires
 locate-parameter-requires c κs = search needs
 
 located-word-requires : tie.Need-located-word-requires
-located-word-requires c κs = subst (λ (a : Located). locatedStart a + locatedLength a ≤ 8192) (sym (c .locate-parameter .ensures)) (parameter-short _ _ _ _ _ _)
+located-word-requires c κs = subst (λ (a : Located). locatedStart a + locatedLength a ≤ 8192) (sym (c .locate-parameter .ensures .0)) (parameter-short _ _ _ _ _ _)
 
 returns : tie.Need-returns
-returns c = c .located-word .ensures ∙ ap locatedWord (c .before .locate-parameter .ensures)
+returns c = c .located-word .ensures ∙ ap locatedWord (c .before .locate-parameter .ensures .0)
 
 pub tt-parameter-spec : {M : Type 1} → statement M
 tt-parameter-spec = tie.close (tie.spec locate-parameter-requires located-word-requires returns)

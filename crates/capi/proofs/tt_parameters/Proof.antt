@@ -13,10 +13,10 @@ parameter-count-requires : tie.Need-parameter-count-requires
 parameter-count-requires c κs = search needs
 
 counted-word-requires : tie.Need-counted-word-requires
-counted-word-requires c κs = subst (λ (a : Counted). countedCount a ≤ 64) (sym (c .parameter-count .ensures)) (parameters-small _ _ _)
+counted-word-requires c κs = subst (λ (a : Counted). countedCount a ≤ 64) (sym (c .parameter-count .ensures .0)) (parameters-small _ _ _)
 
 returns : tie.Need-returns
-returns c = c .counted-word .ensures ∙ ap countedWord (c .before .parameter-count .ensures)
+returns c = c .counted-word .ensures ∙ ap countedWord (c .before .parameter-count .ensures .0)
 
 pub tt-parameters-spec : {M : Type 1} → statement M
 tt-parameters-spec = tie.close (tie.spec parameter-count-requires counted-word-requires returns)

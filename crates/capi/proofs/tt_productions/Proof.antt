@@ -13,10 +13,10 @@ productions-requires : tie.Need-productions-requires
 productions-requires c κs = search needs
 
 counted-word-requires : tie.Need-counted-word-requires
-counted-word-requires c κs = subst (λ (a : Counted). countedCount a ≤ 64) (sym (c .productions .ensures)) (productions-small _)
+counted-word-requires c κs = subst (λ (a : Counted). countedCount a ≤ 64) (sym (c .productions .ensures .0)) (productions-small _)
 
 returns : tie.Need-returns
-returns c = c .counted-word .ensures ∙ ap countedWord (c .before .productions .ensures)
+returns c = c .counted-word .ensures ∙ ap countedWord (c .before .productions .ensures .0)
 
 pub tt-productions-spec : {M : Type 1} → statement M
 tt-productions-spec = tie.close (tie.spec productions-requires counted-word-requires returns)

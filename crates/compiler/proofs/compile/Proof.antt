@@ -8,14 +8,16 @@ use Rattle.model.specs.Compiling.{Outcome, outcomeAnswer}
 use Rattle.scanner.specs.BadByte.{badByteOf}
 use Rattle.tables.specs.Layout.{tableLength}
 use Rattle.compiler.specs.Compile.{imageOf}
-use Rattle.compiler.proofs.Outcomes.{short-outcome, short-bytes, long-outcome, long-bytes, cleared-bytes, too-long, bad-byte, good-bytes}
+use Rattle.compiler.proofs.Outcomes.{answered, short-outcome, short-bytes, long-outcome, long-bytes, cleared-bytes, too-long, bad-byte, good-bytes}
 use Rattle.compiler.proofs.compile.Statement.{statement}
 use Rattle.compiler.proofs.compile.Tie as tie
 
 returns : tie.Need-returns
 returns c =
     let a = c .before .before .before .args in
-    (ap outcomeAnswer (sym (short-outcome (a .text .now) (a .table .now) (c .if1 .taken))), sym (short-bytes (a .text .now) (a .table .now) (c .if1 .taken)))
+    answered (a .text .now) (a .table .now) _ _
+    (ap outcomeAnswer (sym (short-outcome (a .text .now) (a .table .now) (c .if1 .taken))))
+    (sym (short-bytes (a .text .now) (a .table .now) (c .if1 .taken)))
 
 refuse-requires : tie.Need-refuse-requires
 refuse-requires c κs = search needs
@@ -29,7 +31,9 @@ returns-2 c =
     let out = c .before .before .before .before .before .before .before .before .args .table .now in
     let h = c .before .before .before .before .before .if1 .left in
     let e = too-long text (c .before .before .before .before .if2 .taken) in
-    (c .before .before .refuse .ensures .0 ∙ ap outcomeAnswer (sym (long-outcome text out h ∙ e)), cleared-bytes text out (c .before .before .refuse .last .0) _ _ h e (c .before .before .refuse .ensures .1))
+    answered text out _ _
+    (c .before .before .refuse .ensures .0 ∙ ap outcomeAnswer (sym (long-outcome text out h ∙ e)))
+    (cleared-bytes text out (c .before .before .refuse .last .0) _ _ h e (c .before .before .refuse .ensures .1))
 
 first-bad-byte-requires : tie.Need-first-bad-byte-requires
 first-bad-byte-requires c κs = search needs
@@ -57,7 +61,9 @@ returns-3 c =
     let p = c .before .before .before .before .before .place .given .0 .0 in
     let b : firstBadByte text ≡ some p = sym (c .before .before .before .before .before .before .before .first-bad-byte .ensures) ∙ ap badByteOf (c .before .before .before .before .before .place .given .1) in
     let e = bad-byte text p (c .before .before .before .before .before .before .before .before .if2 .left) b in
-    (c .before .before .refuse2 .ensures .0 ∙ ap outcomeAnswer (sym (long-outcome text out h ∙ e)), cleared-bytes text out (c .before .before .refuse2 .last .0) _ _ h e (c .before .before .refuse2 .ensures .1))
+    answered text out _ _
+    (c .before .before .refuse2 .ensures .0 ∙ ap outcomeAnswer (sym (long-outcome text out h ∙ e)))
+    (cleared-bytes text out (c .before .before .refuse2 .last .0) _ _ h e (c .before .before .refuse2 .ensures .1))
 
 same-length-3 : tie.Need-same-length-3
 same-length-3 c = search needs
@@ -69,10 +75,10 @@ returns-4 c =
     let h = c .before .before .before .before .before .before .before .before .if1 .left in
     let b : firstBadByte text ≡ none = sym (c .before .before .before .before .before .before .first-bad-byte .ensures) ∙ ap badByteOf (c .before .before .before .before .enum-told .given .1) in
     let e = good-bytes text (c .before .before .before .before .before .before .before .if2 .left) b in
-    let x = c .before .before .compile-lines .ensures in (
-      x .0 ∙ ap outcomeAnswer (sym (long-outcome text out h ∙ e)),
-      x .1 ∙ ap (λ (o : Outcome). imageOf o ++ drop tableLength out) (sym e) ∙ sym (long-bytes text out h),
-    )
+    let x = c .before .before .compile-lines .ensures in
+    answered text out _ _
+    (x .0 ∙ ap outcomeAnswer (sym (long-outcome text out h ∙ e)))
+    (x .1 ∙ ap (λ (o : Outcome). imageOf o ++ drop tableLength out) (sym e) ∙ sym (long-bytes text out h))
 
 pub compile-spec : {M : Type 1} → statement M
 compile-spec =

@@ -6,7 +6,7 @@ use borrow.Author.Tests.{not-true, not-false}
 use Rattle.tables.specs.Whole.{whole}
 use Rattle.tables.specs.Reading.{decode}
 use Rattle.model.specs.Merging.{mergePassesLimit}
-use Rattle.merger.specs.Counting.{tallyPasses}
+use Rattle.tally.specs.Counting.{tallyPasses}
 use Rattle.merger.proofs.Totals.{merge-passes}
 use Rattle.merger.proofs.Answer.{merged-there}
 use Rattle.merger.proofs.judged.Statement.{statement}

@@ -8,7 +8,7 @@ use lib.ListN.{length}
 use Rattle.tables.specs.Whole.{whole}
 use Rattle.tables.specs.Reading.{decode}
 use Rattle.model.specs.Merging.{mergePassesLimit}
-use Rattle.merger.specs.Copying.{putMerged}
+use Rattle.copying.specs.Copying.{putMerged}
 use Rattle.merger.proofs.Totals.{merge-room}
 use Rattle.merger.proofs.Result.{result-bytes}
 use Rattle.merger.proofs.Answer as answer
@@ -22,21 +22,21 @@ returns c =
     let o = c .before .before .before .before .args .old .now in
     let n = c .before .before .before .before .args .new .now in
     let u = c .before .before .before .before .args .out .now in
-    answer.short-old o n u (c .if1 .taken)
+    answer.numbered o n u (answer.short-old o n u (c .if1 .taken))
 
 returns-2 : tie.Need-returns-2
 returns-2 c =
     let o = c .before .before .before .before .before .args .old .now in
     let n = c .before .before .before .before .before .args .new .now in
     let u = c .before .before .before .before .before .args .out .now in
-    answer.short-new o n u (omega arith) (c .if2 .taken)
+    answer.numbered o n u (answer.short-new o n u (omega arith) (c .if2 .taken))
 
 returns-3 : tie.Need-returns-3
 returns-3 c =
     let o = c .before .before .before .before .before .before .args .old .now in
     let n = c .before .before .before .before .before .before .args .new .now in
     let u = c .before .before .before .before .before .before .args .out .now in
-    answer.short-out o n u (omega arith) (omega arith) (c .if3 .taken)
+    answer.numbered o n u (answer.short-out o n u (omega arith) (omega arith) (c .if3 .taken))
 
 judged-requires : tie.Need-judged-requires
 judged-requires c κs = search needs
@@ -53,7 +53,7 @@ returns-4 c =
     let n = c .before .before .before .before .before .before .before .before .before .before .before .before .args .new .now in
     let u = c .before .before .before .before .before .before .before .before .before .before .before .before .args .out .now in
     let r = answer.refused o n u (omega arith) (omega arith) (omega arith) (c .before .before .before .before .before .judged .result) (c .before .before .before .before .before .judged .ensures) (c .if4 .taken) in
-    (r .0, c .before .before .before .clear .ensures ∙ r .1)
+    answer.numbered o n u (r .0, c .before .before .before .clear .ensures ∙ r .1)
 
 put-merged-requires : tie.Need-put-merged-requires
 put-merged-requires c κs =
@@ -85,7 +85,7 @@ returns-5 c =
     let wo : whole o ≡ true = answer.not-no (whole o) (N .oldNotWhole) in
     let wn : whole n ≡ true = answer.not-no (whole n) (N .newNotWhole) in
     let r = answer.accepted o n u lo ln lu z in
-    (r .0, c .before .before .put-merged .ensures ∙ ap (putMerged o n) (c .before .before .before .before .before .before .before .clear .ensures) ∙ result-bytes o n wo wn (N .oldMerged) (N .newMerged) (N .past) u ∙ r .1)
+    answer.numbered o n u (r .0, c .before .before .put-merged .ensures ∙ ap (putMerged o n) (c .before .before .before .before .before .before .before .clear .ensures) ∙ result-bytes o n wo wn (N .oldMerged) (N .newMerged) (N .past) u ∙ r .1)
 
 pub merge-spec : {M : Type 1} → statement M
 merge-spec =

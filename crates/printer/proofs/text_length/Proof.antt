@@ -1,11 +1,10 @@
 -- `printer::text_length` meets its contract.
 use borrow.Author.Needs.{needs}
 use native.Mathlib.Omega.{arith}
-use mathlib.Core.Path.{_≡_, sym, ap, _∙_}
+use mathlib.Core.Path.{ap}
 use mathlib.Core.List.{List}
 use lib.ListN.{length}
 use Prim.Native.Nat.{ℕ}
-use Rattle.printer.specs.Write.{textWritten}
 use Rattle.printer.proofs.Outcome.{text-is}
 use Rattle.printer.proofs.text_length.Statement.{statement}
 use Rattle.printer.proofs.text_length.Tie as tie

@@ -5,9 +5,9 @@ use mathlib.Core.List.{List, map}
 use lib.ListN.{length}
 use Rattle.model.specs.Calls.{Parameters, parametersAt}
 use Rattle.model.specs.Compiling.{inText}
-use Rattle.scanner.specs.declared.sides.ParametersOpen.{ParametersOpen}
-use Rattle.scanner.specs.Sides.{openAt}
-use Rattle.scanner.proofs.Right.{opened, opened-is, OpenIn, open-in}
+use Rattle.call_scanner.specs.declared.right.ParametersOpen.{ParametersOpen}
+use Rattle.call_scanner.specs.RightSide.{openAt}
+use Rattle.call_scanner.proofs.RightSide.{opened, opened-is, OpenIn, open-in}
 use Rattle.compiler.specs.Puts.{putParameters}
 use Rattle.compiler.specs.Reads.{ParametersFit, spansIn}
 use Rattle.compiler.proofs.CallWalk.{put-no-parameter}

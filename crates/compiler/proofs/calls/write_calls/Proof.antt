@@ -7,7 +7,7 @@ use Prim.Native.Nat.{ℕ}
 use lib.ListN.{length}
 use Rattle.model.specs.Calls.{parametersAt, rightSide}
 use Rattle.model.specs.Compiling.{inText, callOf}
-use Rattle.scanner.specs.Sides.{callsIn}
+use Rattle.call_scanner.specs.RightSide.{callsIn}
 use Rattle.compiler.specs.Puts.{putParameters, putCalls}
 use Rattle.compiler.specs.Reads.{spansIn}
 use Rattle.compiler.proofs.CallWalk.{CallsLeft, calls-start, call-told, calls-same}

@@ -4,7 +4,7 @@ use Prim.Native.Nat.{_-_}
 use mathlib.Core.Path.{_≡_, refl, sym, _∙_}
 use lib.ListN.{length}
 use Rattle.model.specs.Events.{leftSide}
-use Rattle.scanner.specs.Spans.{eventsIn}
+use Rattle.event_scanner.specs.Spans.{eventsIn}
 use Rattle.compiler.specs.Puts.{putWritten}
 use Rattle.compiler.proofs.EventWalk.{EventsLeft, events-start, events-fit, after-told, walk-in}
 use Rattle.compiler.proofs.events.write_events.Statement.{statement}

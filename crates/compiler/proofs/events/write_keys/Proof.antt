@@ -4,7 +4,7 @@ use Prim.Native.Nat.{_+_, _-_}
 use mathlib.Core.Path.{_≡_, refl, sym, ap, _∙_}
 use lib.ListN.{length}
 use Rattle.model.specs.Events.{keysFrom}
-use Rattle.scanner.specs.Spans.{eventsIn}
+use Rattle.event_scanner.specs.Spans.{eventsIn}
 use Rattle.compiler.specs.Puts.{putJudged, putWritten}
 use Rattle.compiler.proofs.EventWalk.{KeysLeft, keys-start, key-told, keys-at}
 use Rattle.compiler.proofs.events.write_keys.Statement.{statement}

@@ -14,7 +14,7 @@ same-length : tie.Need-same-length
 same-length c = search needs
 
 returns : tie.Need-returns
-returns c = c .before .before .write-judged .ensures ∙ ap (putJudged (c .before .before .before .before .before .before .before .args .out .now) (c .before .before .before .before .before .before .before .args .k)) (c .before .before .before .before .judge-event .ensures)
+returns c = c .before .before .write-judged .ensures ∙ ap (putJudged (c .before .before .before .before .before .before .before .args .out .now) (c .before .before .before .before .before .before .before .args .k)) (c .before .before .before .before .judge-event .ensures .0)
 
 pub write-plain-spec : {M : Type 1} → statement M
 write-plain-spec = tie.close (tie.spec judge-event-requires write-judged-requires same-length returns)

@@ -7,7 +7,7 @@ use lib.ListN.{length, take, drop, length-drop}
 use lib.Seq.{length-take-le}
 use Rattle.model.specs.Lines.{lineAt, directiveAt}
 use Rattle.model.specs.declared.events.Directive.{Directive}
-use Rattle.names.specs.Find.{directiveGiven}
+use Rattle.lookup.specs.Find.{directiveGiven}
 use Rattle.lines.specs.declared.totals.Totals.{Totals}
 use Rattle.compiler.specs.Progress.{plainDone, plainHeld, lineDone, lineHeld}
 use Rattle.compiler.specs.declared.line.LineDone.{LineDone}

@@ -4,7 +4,7 @@ use mathlib.Core.Path.{ap, _∙_}
 use mathlib.Core.List.{List, map}
 use Rattle.model.specs.Calls.{rightSide}
 use Rattle.model.specs.Compiling.{callOf}
-use Rattle.scanner.specs.Sides.{callsIn}
+use Rattle.call_scanner.specs.RightSide.{callsIn}
 use Rattle.tables.specs.Writing.{putProduction}
 use Rattle.compiler.specs.Puts.{putCalls, putLine}
 use Rattle.compiler.proofs.line.write_line.Statement.{statement}

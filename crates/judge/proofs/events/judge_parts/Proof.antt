@@ -1,7 +1,7 @@
 -- `judge::events::judge_parts` meets its contract: each check by its own function, the first that applies by `event_order`.
 use mathlib.Core.Path.{_≡_, _∙_}
 use Rattle.judge.specs.Judged.{partsNumber}
-use Rattle.judge.proofs.Asked.{set-below, clear-below}
+use Rattle.list_masks.proofs.Asked.{set-below, clear-below}
 use Rattle.judge.proofs.Parts.{parts-number, keeps, refuses}
 use borrow.Author.Needs.{needs}
 use Rattle.judge.proofs.events.judge_parts.Statement.{statement}

@@ -1,9 +1,9 @@
 -- `judge::spans::alone` meets its contract.
 use mathlib.Core.Path.{_≡_, sym}
 use mathlib.Core.Bool.{Bool, true, false}
-use Rattle.judge.specs.Summary.{summaryOf}
+use Rattle.list_masks.specs.Summary.{summaryOf}
 use Rattle.judge.specs.Spans.{loneListOf}
-use Rattle.judge.proofs.Listed.{summary-none, summary-any}
+use Rattle.list_masks.proofs.Listed.{summary-none, summary-any}
 use Rattle.judge.proofs.spans.alone.Statement.{statement}
 use Rattle.judge.proofs.spans.alone.Tie as tie
 

@@ -2,7 +2,7 @@
 use mathlib.Core.Path.{subst}
 use native.Mathlib.Omega.{arith}
 use lib.ListN.{length}
-use Rattle.scanner.specs.declared.events.CountSpan.{CountSpan}
+use Rattle.event_scanner.specs.declared.events.CountSpan.{CountSpan}
 use Rattle.judge.specs.Judged.{countOf, countSummary}
 use Rattle.judge.specs.Spans.{CountSpanIn}
 use borrow.Author.Needs.{needs}

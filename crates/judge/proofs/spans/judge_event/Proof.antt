@@ -2,9 +2,9 @@
 use mathlib.Core.Path.{sym, ap, _∙_}
 use Rattle.model.specs.Judging.{judgedAs, judgedWritten}
 use Rattle.judge.specs.Spans.{writtenIn}
-use Rattle.judge.proofs.Listed.{summary-in}
+use Rattle.list_masks.proofs.Listed.{summary-in}
 use Rattle.judge.proofs.NameRanges.{type-in}
-use Rattle.judge.proofs.Same.{judged-from}
+use Rattle.judge.proofs.Same.{judged-from, with-number}
 use borrow.Author.Needs.{needs}
 use Rattle.judge.proofs.spans.judge_event.Statement.{statement}
 use Rattle.judge.proofs.spans.judge_event.Tie as tie
@@ -55,20 +55,25 @@ judge-parts-requires c κs = (
 returns : tie.Need-returns
 unfolding judgedWritten
 returns c =
-    sym
+    with-number
+    (writtenIn (c .before .before .before .before .before .before .before .before .args .l .now) (c .before .before .before .before .before .before .before .before .args .e))
+    _
+    (sym
     (ap (judgedAs (writtenIn (c .before .before .before .before .before .before .before .before .args .l .now)
     (c .before .before .before .before .before .before .before .before .args .e)))
-    (sym (c .before .before .type-named .ensures) ∙ c .enum-told .given .1))
+    (sym (c .before .before .type-named .ensures) ∙ c .enum-told .given .1)))
 
 returns-2 : tie.Need-returns-2
 returns-2 c =
     let known = sym (c .before .before .before .before .before .before .before .before .type-named .ensures)
     ∙ c .before .before .before .before .before .before .ty .given .1 in
-    c .judge-parts .ensures
-    ∙ judged-from (writtenIn
-    (c .before .before .before .before .before .before .before .before .before .before .before .before .before .before .args .l .now) (c .before .before .before .before .before .before .before .before .before .before .before .before .before .before .args .e)) _ _ _ _ known
+    let w = writtenIn
+    (c .before .before .before .before .before .before .before .before .before .before .before .before .before .before .args .l .now) (c .before .before .before .before .before .before .before .before .before .before .before .before .before .before .args .e) in
+    with-number w _
+    (c .judge-parts .ensures
+    ∙ judged-from w _ _ _ _ known
     (c .before .before .before .before .list-of .ensures) (c .before .before .before .count-at .ensures)
-    (c .before .detail-of .ensures)
+    (c .before .detail-of .ensures))
 
 pub judge-event-spec : {M : Type 1} → statement M
 judge-event-spec =

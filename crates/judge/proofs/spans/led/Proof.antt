@@ -1,6 +1,6 @@
 -- `judge::spans::led` meets its contract.
 use mathlib.Core.Path.{sym}
-use Rattle.judge.proofs.Listed.{summary-empty}
+use Rattle.list_masks.proofs.Listed.{summary-empty}
 use Rattle.judge.proofs.spans.led.Statement.{statement}
 use Rattle.judge.proofs.spans.led.Tie as tie
 

@@ -3,11 +3,11 @@ use Prim.Native.Nat.{ℕ}
 use mathlib.Core.Path.{_≡_, sym, ap, _∙_}
 use mathlib.Core.List.{List}
 use Rattle.model.specs.Events.{modifiersAt}
-use Rattle.scanner.specs.declared.lists.ListKind.{ListKind}
-use Rattle.scanner.specs.declared.events.ListSpans.{ListSpans}
-use Rattle.scanner.specs.Spans.{listIn}
-use Rattle.scanner.specs.ModifierLists.{modifiersIn, listOfKind}
-use Rattle.judge.specs.Summary.{summaryOf}
+use Rattle.list_scanner.specs.declared.lists.ListKind.{ListKind}
+use Rattle.event_scanner.specs.declared.events.ListSpans.{ListSpans}
+use Rattle.event_scanner.specs.Spans.{listIn}
+use Rattle.list_scanner.specs.ModifierLists.{modifiersIn, listOfKind}
+use Rattle.list_masks.specs.Summary.{summaryOf}
 use borrow.Author.Needs.{needs}
 use Rattle.judge.proofs.spans.list_of.Statement.{statement}
 use Rattle.judge.proofs.spans.list_of.Tie as tie

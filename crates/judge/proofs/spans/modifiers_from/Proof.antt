@@ -6,7 +6,7 @@ use lib.ListN.{length}
 use Rattle.model.specs.Events.{modifierAt}
 use Rattle.model.specs.declared.scan.ModifierRead.{ModifierRead}
 use Rattle.scanner.proofs.Ranges.{ModifierIn}
-use Rattle.judge.specs.Summary.{withName}
+use Rattle.list_masks.specs.Summary.{withName}
 use Rattle.judge.proofs.NameRanges.{name-in}
 use Rattle.judge.proofs.Reading.{Read, read-place, read-start, read-value-in, read-broken, read-end, read-name, read-keysym}
 use borrow.Author.Needs.{needs}

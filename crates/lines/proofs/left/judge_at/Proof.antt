@@ -1,8 +1,8 @@
 use mathlib.Core.Path.{_∙_, ap, subst, sym}
 use lib.ListN.{length}
-use Rattle.scanner.specs.declared.events.EventRead.{EventRead}
-use Rattle.scanner.specs.Spans.{readOf}
-use Rattle.scanner.proofs.EventRanges.{EventIn, spans-in}
+use Rattle.event_scanner.specs.declared.events.EventRead.{EventRead}
+use Rattle.event_scanner.specs.Spans.{readOf}
+use Rattle.event_scanner.proofs.EventRanges.{EventIn, spans-in}
 use Rattle.scanner.proofs.Runs.{told}
 use Rattle.judge.proofs.SpanRanges.{spans-within}
 use Rattle.lines.specs.declared.left.LeftJudged.{LeftJudged}

@@ -6,7 +6,7 @@ use Rattle.model.specs.Events.{keyAt, keysFrom}
 use Rattle.lines.specs.Left.{IsRead, sideJudged}
 use Rattle.lines.proofs.Kept.{sideFrom, side-start, side-end, key-read, key-refused, key-kept}
 use Rattle.model.specs.declared.scan.KeyRead.{KeyRead}
-use Rattle.scanner.proofs.KeyCounts.{keys-step}
+use Rattle.event_scanner.proofs.KeyCounts.{keys-step}
 use Rattle.scanner.proofs.Ranges.{KeyIn, key-in}
 use Rattle.scanner.proofs.Runs.{told}
 use borrow.Author.Needs.{needs}

@@ -19,15 +19,15 @@ element-count-requires : tie.Need-element-count-requires
 element-count-requires c κs =
     let a = c .before .before .before .before .before .args in
     spans-kept (a .l .now) (a .spans) (c .before .e .given .0 .0) (omega (arith, c .before .before .before .before .shared-slice-known .given (a .spans .detail .start)))
-    (sym (c .before .before .before .judge-event .ensures) ∙ c .before .e .given .1) .count-to
+    (sym (c .before .before .before .judge-event .ensures .0) ∙ c .before .e .given .1) .count-to
 
 returns : tie.Need-returns
-returns c = plain-refused (c .before .before .before .before .before .args .l .now) (c .before .before .before .before .before .args .spans) (c .before .n .given .0 .0) (sym (c .before .before .before .judge-event .ensures) ∙ c .before .n .given .1)
+returns c = plain-refused (c .before .before .before .before .before .args .l .now) (c .before .before .before .before .before .args .spans) (c .before .n .given .0 .0) (sym (c .before .before .before .judge-event .ensures .0) ∙ c .before .n .given .1)
 
 returns-2 : tie.Need-returns-2
 returns-2 c =
     plain-kept (c .before .before .before .before .before .before .args .l .now) (c .before .before .before .before .before .before .args .spans) (c .before .before .e .given .0 .0) (c .element-count .result) (c .element-count .ensures)
-    (sym (c .before .before .before .before .judge-event .ensures) ∙ c .before .before .e .given .1)
+    (sym (c .before .before .before .before .judge-event .ensures .0) ∙ c .before .before .e .given .1)
 
 pub judge-plain-spec : {M : Type 1} → statement M
 judge-plain-spec =

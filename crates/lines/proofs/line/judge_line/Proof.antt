@@ -1,7 +1,7 @@
 use mathlib.Core.Path.{_∙_, sym}
 use lib.ListN.{length}
 use Rattle.model.specs.Events.{leftSide}
-use Rattle.scanner.proofs.Left.{LeftIn, left-in}
+use Rattle.event_scanner.proofs.LeftSide.{LeftIn, left-in}
 use Rattle.scanner.proofs.Runs.{told}
 use Rattle.lines.proofs.Verdict.{left-is-read, no-left, no-right, event-refused, all-kept}
 use borrow.Author.Needs.{needs}

@@ -8,7 +8,6 @@ use lib.Seq.{length-slice}
 use Rattle.states.specs.State.{slotsOf, inSlots}
 use Rattle.states.proofs.SlotLaws.{length-slots, in-slot, length-in}
 use Rattle.matcher.proofs.MoveLaws.{no-slots, shift-none, shift-more}
-use borrow.Author.Needs.{needs}
 use Rattle.matcher.proofs.moves.shifted.Statement.{statement}
 use Rattle.matcher.proofs.moves.shifted.Tie as tie
 

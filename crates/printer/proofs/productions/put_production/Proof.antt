@@ -1,15 +1,15 @@
 -- `printer::productions::put_production` meets its contract.
 use borrow.Author.Needs.{needs}
 use native.Mathlib.Omega.{arith}
-use mathlib.Core.Path.{_≡_, sym, ap, _∙_}
-use Rattle.printer.proofs.Laws.{put-none, put-then, put-as, put-length}
+use mathlib.Core.Path.{_≡_, ap, _∙_}
+use Rattle.writing.proofs.Laws.{put-then, put-as}
 use Prim.Native.Nat.{ℕ}
-use mathlib.Core.List.{List, [], _∷_, _++_}
+use mathlib.Core.List.{List, [], _∷_}
 use Rattle.words.specs.Runs.{run}
 use Rattle.model.specs.Canonical.{joinedBy, each, eventText, callText, productionText}
 use Rattle.tables.specs.Reading.{eventEntry, callEntry, productionEntry, firstEvent, productionEvents, firstCall, productionCalls}
-use Rattle.tables.proofs.WholeFacts.{WholeFacts}
-use Rattle.printer.proofs.ReadyFacts.{ready-facts}
+use Rattle.table_check.proofs.WholeFacts.{WholeFacts}
+use Rattle.call_text.proofs.ReadyFacts.{ready-facts}
 use Rattle.printer.proofs.productions.put_production.Statement.{statement}
 use Rattle.printer.proofs.productions.put_production.Tie as tie
 

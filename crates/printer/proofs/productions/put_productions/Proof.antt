@@ -1,17 +1,16 @@
 -- `printer::productions::put_productions` meets its contract.
 use borrow.Author.Needs.{needs}
 use native.Mathlib.Omega.{arith}
-use mathlib.Core.Path.{_≡_, sym, ap, _∙_}
-use Rattle.printer.proofs.Laws.{put-none, put-then, put-as, put-length}
-use Prim.Native.Nat.{ℕ, _+_, _*_, _-_, _≤_}
-use mathlib.Core.List.{List, _++_}
+use mathlib.Core.Path.{_≡_, ap}
+use Rattle.writing.proofs.Laws.{put-none, put-then, put-as, put-length}
+use Prim.Native.Nat.{ℕ, _*_, _-_, _≤_}
 use Rattle.words.specs.Runs.{run}
 use Rattle.model.specs.Canonical.{productionsText}
 use Rattle.tables.specs.Reading.{productionEntry, productionTotal}
-use Rattle.printer.specs.Overlay.{Put}
-use Rattle.printer.proofs.RunJoined.{productions-none, productions-step}
-use Rattle.tables.proofs.WholeFacts.{WholeFacts}
-use Rattle.printer.proofs.ReadyFacts.{ready-facts}
+use Rattle.writing.specs.Overlay.{Put}
+use Rattle.printer.proofs.ProductionSteps.{productions-none, productions-step}
+use Rattle.table_check.proofs.WholeFacts.{WholeFacts}
+use Rattle.call_text.proofs.ReadyFacts.{ready-facts}
 use Rattle.printer.proofs.productions.put_productions.Statement.{statement}
 use Rattle.printer.proofs.productions.put_productions.Tie as tie
 

@@ -2,7 +2,7 @@
 use borrow.Author.Needs.{needs}
 use native.Mathlib.Omega.{arith}
 use Prim.Native.Nat.{_-_}
-use Rattle.tables.proofs.LoopLaws.{flag-le}
+use Rattle.tables.proofs.EventWords.{flag-le}
 use Rattle.tables.proofs.write.flags_of.Statement.{statement}
 use Rattle.tables.proofs.write.flags_of.Tie as tie
 

@@ -1,0 +1,2 @@
+pub mod RightSide
+pub mod CallTotals

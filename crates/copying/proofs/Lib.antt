@@ -1,0 +1,4 @@
+pub mod Puts
+pub mod ProductionPuts
+pub mod KeptSteps
+pub mod Directives

@@ -1,0 +1,2 @@
+pub mod EventTests
+pub mod Joined

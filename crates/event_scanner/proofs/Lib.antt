@@ -1,0 +1,5 @@
+pub mod KeyCounts
+pub mod Meaning
+pub mod EventRanges
+pub mod LeftSide
+pub mod Walks

@@ -1,0 +1,70 @@
+-- `modifier_text::put_bit` meets its contract.
+use borrow.Author.Needs.{needs}
+use native.Mathlib.Omega.{arith}
+use mathlib.Core.Path.{_≡_, sym, ap, _∙_}
+use mathlib.Core.List.{List, [], _∷_, _++_}
+use mathlib.Core.Bool.{true, false}
+use Prim.Native.Nat.{ℕ}
+use Rattle.model.specs.Modifiers.{bit}
+use Rattle.model.specs.Canonical.{bitName}
+use Rattle.names.specs.Table.{nameRow}
+use Rattle.writing.proofs.Laws.{put-then, put-as}
+use Rattle.modifier_text.proofs.Named.{bit-name}
+use Rattle.modifier_text.proofs.put_bit.Statement.{statement}
+use Rattle.modifier_text.proofs.put_bit.Tie as tie
+
+bit-requires : tie.Need-bit-requires
+bit-requires c κs = search needs
+
+modifier-place-requires : tie.Need-modifier-place-requires
+modifier-place-requires c κs = search needs
+
+put-name-requires : tie.Need-put-name-requires
+put-name-requires c κs = search needs
+
+same-length : tie.Need-same-length
+same-length c = search needs
+
+returns : tie.Need-returns
+returns c =
+    let a = c .before .before .before .before .before .before .before .before .args in
+    let t : bit (a .k) (a .e .set) ≡ true = sym (c .before .before .before .before .before .before .bit .ensures) ∙ c .before .before .before .before .before .if1 .taken in
+    let n : nameRow (c .before .before .before .modifier-place .result) ≡ bitName (a .k) = ap nameRow (c .before .before .before .modifier-place .ensures .0) ∙ sym (bit-name (a .k) (c .before .before .before .before .before .before .before .before .pre .1)) in
+    (rw t (put-as n (c .before .before .put-name .ensures .0)), omega (arith, c .before .before .put-name .ensures .1))
+
+put-byte-requires : tie.Need-put-byte-requires
+put-byte-requires c κs = search needs
+
+modifier-place-requires-2 : tie.Need-modifier-place-requires-2
+modifier-place-requires-2 c κs = search needs
+
+put-name-requires-2 : tie.Need-put-name-requires-2
+put-name-requires-2 c κs = search needs
+
+same-length-2 : tie.Need-same-length-2
+same-length-2 c = search needs
+
+returns-2 : tie.Need-returns-2
+returns-2 c =
+    let a = c .before .before .before .before .before .before .before .before .before .before .before .before .args in
+    let t : bit (a .k) (a .e .set) ≡ false = sym (c .before .before .before .before .before .before .before .before .before .before .bit .ensures) ∙ c .before .before .before .before .before .before .before .before .before .if1 .left in
+    let n : nameRow (c .before .before .before .modifier-place2 .result) ≡ bitName (a .k) = ap nameRow (c .before .before .before .modifier-place2 .ensures .0) ∙ sym (bit-name (a .k) (c .before .before .before .before .before .before .before .before .before .before .before .before .pre .1)) in
+    let m : (126 ∷ []) ++ nameRow (c .before .before .before .modifier-place2 .result) ≡ (126 ∷ []) ++ bitName (a .k) = ap (λ (l : List ℕ). (126 ∷ []) ++ l) n in (
+      rw t (put-as m (put-then (c .before .before .before .before .before .before .before .put-byte .ensures) (c .before .before .put-name2 .ensures .0))),
+      omega (arith, c .before .before .before .before .before .before .before .put-byte .ensures .next, c .before .before .put-name2 .ensures .1),
+    )
+
+pub put-bit-spec : {M : Type 1} → statement M
+put-bit-spec =
+    tie.close
+    (tie.spec
+    bit-requires
+    modifier-place-requires
+    put-name-requires
+    same-length
+    returns
+    put-byte-requires
+    modifier-place-requires-2
+    put-name-requires-2
+    same-length-2
+    returns-2)

@@ -1,0 +1,2 @@
+// Numbers as a text writes them.
+pub mod number;

@@ -1,0 +1,3 @@
+pub mod CallWords
+pub mod Joined
+pub mod Shortcuts

@@ -1,0 +1,60 @@
+// Texts put into lent bytes. Each function writes its text at a position as far as it lies within the bytes, and returns the
+// position past it: on few bytes it measures the text, on enough it writes it.
+ghost use mathlib.Core.List.{[], _∷_};
+ghost use Prim.Native.Nat.{_+_, _≤_, _<_};
+ghost use lib.ListN.{length, take, drop};
+ghost use Rattle.names.specs.Table.{nameRow};
+ghost use Rattle.writing.specs.Overlay.{Put, separator};
+
+// The one store.
+pub fn put_byte(out: &mut [u8], at: usize, b: u8) -> usize
+    requires { ⌜ at ≤ 9100000000 ⌝ }
+    ensures { λ r. ⌜ Put (now (out .entry)) (now (out .exit)) at r (b ∷ []) ⌝ }
+{
+    if at < out.len() {
+        out[at] = b;
+        return at + 1;
+    }
+    at + 1
+}
+
+// What parts the n-th of several texts from those before it: nothing before the first.
+pub fn put_separator(out: &mut [u8], at: usize, n: usize, b: u8) -> usize
+    requires { ⌜ at ≤ 9000000000 ⌝ }
+    ensures { λ r. ⌜ (Put (now (out .entry)) (now (out .exit)) at r (separator b n)) × (r ≤ at + 1) ⌝ }
+{
+    if n > 0 {
+        return put_byte(out, at, b);
+    }
+    at
+}
+
+// A part of a text.
+pub fn put_part(out: &mut [u8], at: usize, text: &[u8], start: usize, len: usize) -> usize
+    requires { ⌜ (at ≤ 9000000000) × (start + len ≤ length (now text)) × (len ≤ 8192) ⌝ }
+    ensures { λ r. ⌜ (Put (now (out .entry)) (now (out .exit)) at r (take len (drop start (now (text .entry))))) × (r ≤ at + 8192) ⌝ }
+{
+    let mut next = at;
+    let mut i: usize = 0;
+    while i < len {
+        next = put_byte(out, next, text[start + i]);
+        i += 1;
+    }
+    next
+}
+
+// The name at a place of the table of names.
+pub fn put_name(out: &mut [u8], at: usize, place: usize) -> usize
+    requires { ⌜ (at ≤ 9000000000) × (place < 155) ⌝ }
+    ensures { λ r. ⌜ (Put (now (out .entry)) (now (out .exit)) at r (nameRow place)) × (r ≤ at + 1237) ⌝ }
+{
+    let start = names::table::name_start(place);
+    let len = names::table::name_length(place);
+    let mut next = at;
+    let mut i: usize = 0;
+    while i < len {
+        next = put_byte(out, next, names::table::name_byte(start + i));
+        i += 1;
+    }
+    next
+}

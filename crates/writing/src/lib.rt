@@ -1,0 +1,3 @@
+// Texts and numbers put into lent bytes.
+pub mod bytes;
+pub mod numbers;
