@@ -89,6 +89,12 @@ module _ (table : List ℕ) (w : whole table ≡ true) (setting : Setting) where
     answer-is : callAnswer table setting s c .matched ≡ step .answer
     answer-is = rw same-answer (answer-same (eqb number 0) refl)
 
+    whole-is : wholeState (callAnswer table setting s c .state) ≡ true
+    whole-is = rw same-answer (next-whole (eqb number 0))
+
+    stands-is : keptOf (callAnswer table setting s c .state) ≡ step .next
+    stands-is = rw same-answer (next-same (eqb number 0) refl)
+
     kept-is : (matchedNumber (callAnswer table setting s c .matched) ≡ 0 → ⊥) → callAnswer table setting s c .state ≡ s
     kept-is f = rw same-answer (next-kept (eqb number 0) (λ z. f (ap matchedNumber answer-is ∙ z)))
 
@@ -97,10 +103,10 @@ module _ (table : List ℕ) (w : whole table ≡ true) (setting : Setting) where
   views =
       record {
         freshGood = fresh-whole;
-        nextGood = λ s c g. rw (same-answer s c g) (next-whole s c g (eqb (stepNumber t setting (keptOf s) c) 0));
+        nextGood = λ s c g. whole-is s c g;
         fresh = fresh-kept;
         answer = λ s c g. answer-is s c g;
-        next = λ s c g. rw (same-answer s c g) (next-same s c g (eqb (stepNumber t setting (keptOf s) c) 0) refl);
+        next = λ s c g. stands-is s c g;
         refused = λ s c g f. kept-is s c g f;
       }
 
