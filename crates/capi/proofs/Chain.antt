@@ -15,7 +15,7 @@ use Rattle.tables.specs.Layout.{tableLength}
 use Rattle.tables.specs.Reading.{decode}
 use Rattle.compiler.specs.Compile.{compiledBytes}
 use Rattle.merger.specs.Merge.{mergeNumber, numberAnswer, mergeAnswer, mergedBytes}
-use Rattle.merger.proofs.Theorems.{answer-number}
+use Rattle.merger.proofs.Answer.{answer-number}
 use Rattle.claims.proofs.Numbered.{refused-numbered}
 use Rattle.claims.proofs.Compiling.{demand3-compiled}
 use Rattle.claims.proofs.Merging.{demand3-merged}

@@ -124,7 +124,7 @@ module _ (text : List ℕ) (rest : ℕ → Directive → List Production → Out
 lines-numbered :
     (fuel : ℕ) (text : List ℕ) (at : ℕ) (d : Directive) (ps : List Production) → Numbered (linesFrom fuel text at d ps)
 unfolding linesFrom RestNumbered
-lines-numbered zero text at d ps = tt
+lines-numbered zero text at d ps = omega arith
 lines-numbered (suc fuel) text at d ps =
     directive-numbered text (λ p e qs. linesFrom fuel text p e qs) (λ p e qs. lines-numbered fuel text p e qs) at d ps
     (directiveAt text at)
