@@ -1,3 +1,4 @@
 pub mod Starred
 pub mod Sameness
 pub mod Tested
+pub mod Named

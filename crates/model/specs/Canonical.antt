@@ -4,14 +4,15 @@
 -- has the form of every other, modifiers, type, count and detail, and stands in its place; all other events, and the calls, are
 -- written as ever. Such a text need not compile, and need not read back.
 use Prim.Native.Nat.{ℕ, zero, suc, _+_, _/_, _%_}
-use mathlib.Core.Bool.{Bool, false, cond, not, _&&_, _||_}
+use mathlib.Core.Bool.{Bool, true, false, cond, not, _&&_, _||_}
 use mathlib.Core.List.{List, [], _∷_, _++_}
 use lib.Dec.{eqb, ltb}
 use Rattle.model.specs.Lists.{bytes, all, those}
 use Rattle.model.specs.Codes.{isKey, isButton, motionNotify, hasMode, takesModifiers}
-use Rattle.model.specs.Names.{Entry, nameOf, modifierEntries, protocolEntries}
+use Rattle.model.specs.Names.{Entry, nameOf, metaName, altName, hyperName, superName, modifierEntries, protocolEntries}
 use Rattle.model.specs.Details.{buttonEntries, motionEntries, modeEntries, requestEntries}
-use Rattle.model.specs.Modifiers.{bits, isBit, isShiftOrLock, bit, asksBit}
+use Rattle.model.specs.Modifiers.{bits, isBit, isNamed, bit, asksBit, isTestable}
+use Rattle.model.specs.Named.{formBit, markedKeysym, isListed, keptAsWritten}
 use Rattle.model.specs.Tables.{Call, Production, Table}
 use Rattle.model.specs.Asking.{partBytes}
 use Rattle.model.specs.declared.scan.Span.{Span}
@@ -62,30 +63,60 @@ writingOrder = 2 ∷ 0 ∷ 1 ∷ 3 ∷ 4 ∷ 5 ∷ 6 ∷ 7 ∷ 8 ∷ 9 ∷ 10 �
 unfoldable pub bitName : ℕ → List ℕ
 bitName k = nameOf (isBit k) [] modifierEntries
 
--- testable bits are 13, beside a colon 11
-abbrev pub isTestable : KeptEvent → ℕ → Bool
-isTestable e k = not (e .colon && isShiftOrLock k)
-
 -- "on codes 2..8 alone `!` (or `!:`) wherever every testable bit is asked set or clear"
+unfoldable pub asksEvery : KeptEvent → Bool
+asksEvery e = takesModifiers (e .code) && all (λ k. not (isTestable e k) || asksBit e k) bits
+
+-- R-1: "An event with such a name keeps `!` .. as written"; choice: an event that keeps `!` and no name is written as it is kept too
 unfoldable pub writesBang : KeptEvent → Bool
-writesBang e = takesModifiers (e .code) && all (λ k. not (isTestable e k) || asksBit e k) bits
+writesBang e = cond (keptAsWritten e) (e .bang) (asksEvery e)
 
 -- a set bit by its name, a clear one with `~`; choice: a bit asked both set and clear is written as set
 abbrev pub bitText : KeptEvent → ℕ → List ℕ
 bitText e k = cond (bit k (e .set)) (bitName k) (bytes "~" ++ bitName k)
 
--- after `!` "only set bits listed"
+-- after `!` "only set bits listed"; R-1: of an event with names "clear ones too, as written"
 abbrev pub isWrittenBit : KeptEvent → ℕ → Bool
-isWrittenBit e k = cond (writesBang e) (bit k (e .set)) (asksBit e k)
+isWrittenBit e k = cond (writesBang e && not (keptAsWritten e)) (bit k (e .set)) (asksBit e k)
 
--- "one blank between them"
-unfoldable pub bitsText : KeptEvent → List ℕ
-bitsText e = joinedBy (bytes " ") (each (bitText e) (those (isWrittenBit e) writingOrder))
+unfoldable pub bitTexts : KeptEvent → List (List ℕ)
+bitTexts e = each (bitText e) (those (isWrittenBit e) writingOrder)
+
+-- R-1: "of one name the set form first, each form once"
+abbrev pub formTexts : (set clear : Bool) → List ℕ → List (List ℕ)
+formTexts set clear text = cond set (text ∷ []) [] ++ cond clear ((bytes "~" ++ text) ∷ []) []
+
+-- the long name of Meta, Alt, Hyper or Super, which stands before the short one
+unfoldable pub longName : ℕ → List ℕ
+longName n = nameOf (isNamed n) [] modifierEntries
+
+abbrev pub nameTexts : KeptEvent → ℕ → List (List ℕ)
+nameTexts e n = formTexts (bit (formBit false n) (e .names)) (bit (formBit true n) (e .names)) (longName n)
+
+-- "`@` with hexadecimal keysyms"
+abbrev pub keysymTexts : ℕ → List (List ℕ)
+keysymTexts s = formTexts (isListed false s) (isListed true s) (bytes "@" ++ hexadecimal (markedKeysym s))
+
+-- "Meta, Alt, Hyper, Super, then `@` .., rising"
+unfoldable pub namesTexts : KeptEvent → List (List ℕ)
+namesTexts e =
+    nameTexts e metaName
+    ++ (nameTexts e altName
+    ++ (nameTexts e hyperName
+    ++ (nameTexts e superName
+    ++ (keysymTexts (e .keysyms .first)
+    ++ (keysymTexts (e .keysyms .second)
+    ++ (keysymTexts (e .keysyms .third)
+    ++ keysymTexts (e .keysyms .fourth)))))))
+
+-- "one blank between them"; R-1: "The writer puts the names after Button5"
+unfoldable pub listText : KeptEvent → List ℕ
+listText e = joinedBy (bytes " ") (bitTexts e ++ namesTexts e)
 
 -- "nothing between `!`, `:` and the first modifier"; choice: modifiers on a type that takes none, and a colon on a type that is no
 -- key or beside Shift or Lock, are written as on the others
 unfoldable pub modifiersText : KeptEvent → List ℕ
-modifiersText e = cond (writesBang e) (bytes "!") [] ++ (cond (e .colon) (bytes ":") [] ++ bitsText e)
+modifiersText e = cond (writesBang e) (bytes "!") [] ++ (cond (e .colon) (bytes ":") [] ++ listText e)
 
 -- ---- Types and details
 

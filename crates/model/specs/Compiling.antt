@@ -73,14 +73,23 @@ lineRead l = withEvents l (leftSide l)
 
 pub data EventsJudged : Type 0 where
   keep : List KeptEvent → EventsJudged
+  -- no event is refused, and one names too many keysyms
+  crowded : EventsJudged
   refuse : ℕ → EventsJudged
 
 abbrev pub keepOneMore : KeptEvent → EventsJudged → EventsJudged
 keepOneMore e (keep es) = keep (e ∷ es)
+keepOneMore e crowded = crowded
 keepOneMore e (refuse n) = refuse n
+
+abbrev pub crowdedWith : EventsJudged → EventsJudged
+crowdedWith (keep es) = crowded
+crowdedWith crowded = crowded
+crowdedWith (refuse n) = refuse n
 
 abbrev pub judgedNext : Judged → EventsJudged → EventsJudged
 judgedNext (Judged.Keep e) rest = keepOneMore e rest
+judgedNext Judged.Crowded rest = crowdedWith rest
 judgedNext (Judged.Refuse n) rest = refuse n
 
 -- "event by event": the number of the earliest event that is refused, or all events
@@ -106,6 +115,7 @@ withinLimits before p = cond (passesLimit (before ++ (p ∷ []))) (LineOutcome.r
 
 abbrev pub lineJudged : List Production → ℕ → EventsJudged → List WrittenCall → LineOutcome
 lineJudged before base (keep es) cs = withinLimits before (record { events = es; calls = map (callOf base) cs })
+lineJudged before base crowded cs = LineOutcome.refuse pastLimit
 lineJudged before base (EventsJudged.refuse n) cs = LineOutcome.refuse n
 
 -- "4 for the whole line; then event by event ..; then 11 with that line counted"

@@ -11,6 +11,7 @@ use Rattle.model.specs.Lists.{given}
 use Rattle.model.specs.Limits.{mapLength}
 use Rattle.model.specs.Numbers.{MatchChecks, matchOrder, matchedNumber, matchedSelection}
 use Rattle.model.specs.Setting.{Setting}
+use Rattle.model.specs.Resolving.{isBadMap}
 use Rattle.model.specs.Modifiers.{bit}
 use Rattle.model.specs.Tables.{Table}
 use Rattle.model.specs.Compiling.{passesLimit, compiled, accepted}
@@ -45,6 +46,7 @@ abbrev pub callChecks : Setting → MatchCall → (full : Bool) → MatchChecks
 callChecks setting c full =
     record {
       short = not (eqb (length (setting .keyboard)) mapLength);
+      modifiersBad = isBadMap (setting .modifiers);
       tableBroken = false;
       stateBroken = false;
       recordBad = isBadRecord (c .bytes) (c .order);
@@ -164,7 +166,7 @@ pub record Demand3 {S : Type 0} (m : Matcher S) (t : Table) (setting : Setting) 
       (ds : List MatchCall) → Alike (tests setting t) cs ds → answersFrom m (m .fresh) cs ≡ answersFrom m (m .fresh) ds
 
 -- "For any .. table, one keyboard map, one multi-click time and every list of matcher calls from a fresh state", where the
--- table passes no limit
+-- table passes no limit; R-1: "Demand 3's list of calls now has one modifier map too"
 abbrev pub Demand3For : {S : Type 0} → (Table → Setting → Matcher S) → Type 0
 Demand3For matcher =
     (t : Table) → passesLimit (t .productions) ≡ false → (setting : Setting) (cs : List MatchCall)

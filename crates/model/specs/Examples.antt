@@ -75,9 +75,13 @@ release button time = call 5 button time 0
 unfoldable pub oneKey : List ℕ
 oneKey = replicate 60 0 ++ (0x61 ∷ 0x41 ∷ replicate 434 0)
 
--- under that map and a multi-click time
+-- a modifier map of eight rows of two keycodes, all unused
+unfoldable pub noModifiers : List ℕ
+noModifiers = replicate 16 0
+
+-- under these maps and a multi-click time
 abbrev pub underTime : ℕ → Setting
-underTime time = record { keyboard = oneKey; time = time }
+underTime time = record { keyboard = oneKey; modifiers = noModifiers; time = time }
 
 -- keycode 38, with Shift and without
 abbrev pub shifted : MatchCall

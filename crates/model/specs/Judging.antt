@@ -1,4 +1,4 @@
--- Document 01, "Numbers handed back", 5..10: an event of a line, refused or kept.
+-- Document 01, "Numbers handed back", 5..10, and request R-1: an event of a line, refused or kept.
 use Prim.Native.Nat.{ℕ, _-_, _^_}
 use mathlib.Core.Bool.{Bool, true, false, cond, not, _&&_, _||_}
 use mathlib.Core.List.{List}
@@ -6,13 +6,14 @@ use mathlib.Core.Option.{Option, none, some}
 use lib.Dec.{eqb}
 use lib.ListN.{length}
 use Rattle.model.specs.Lists.{any, isEmpty}
-use Rattle.model.specs.Numbers.{noRefusal, unknownName, badNumber, notBuilt, eventOrder}
+use Rattle.model.specs.Numbers.{noRefusal, unknownName, badNumber, notBuilt, pastLimit, eventOrder}
 use Rattle.model.specs.Bytes.{inRange, byteAt}
-use Rattle.model.specs.Names.{shiftBit, lockBit, ctrlBit, modifierNumber, modifierNamed, typeNamed}
+use Rattle.model.specs.Names.{shiftBit, lockBit, ctrlBit, metaName, modifierNumber, modifierNamed, typeNamed}
 use Rattle.model.specs.Codes.{keyPress, isKey, takesCount, takesModifiers}
-use Rattle.model.specs.Details.{detailNumber, detailNamed}
+use Rattle.model.specs.Details.{detailNumber, keyDetail, detailNamed}
 use Rattle.model.specs.Events.{Modifier, name, keysym, ModifierList, Count, Written, WrittenEvent, event, key}
-use Rattle.model.specs.Modifiers.{modifiersOf, has, hasColon, isWritten, addsBit, setMask, clearMask, keepsClause, noStateMeets}
+use Rattle.model.specs.Modifiers.{mask, modifiersOf, listsClear, has, asksOthersClear, hasColon, isWritten, addsBit, setMask, clearMask, keepsClause, noStateMeets}
+use Rattle.model.specs.Named.{formBit, namesMask, keysymsOf, isCrowded, keysymsIn, noKeysyms, hasNames}
 use Rattle.model.specs.declared.scan.KeyMark.{KeyMark}
 use Rattle.model.specs.declared.events.Detail.{Detail}
 use Rattle.model.specs.declared.events.KeptEvent.{KeptEvent}
@@ -28,31 +29,30 @@ use Rattle.model.specs.declared.answers.Judged.{Judged}
 abbrev pub nameUnknown : ModifierName → Bool
 nameUnknown n = eqb (modifierNumber n) unknownName
 
-abbrev pub nameUnbuilt : ModifierName → Bool
-nameUnbuilt n = eqb (modifierNumber n) notBuilt
+abbrev pub readUnknown : DetailRead → Bool
+readUnknown r = eqb (detailNumber r) unknownName
 
--- "unknown modifier"
+abbrev pub readTooLarge : DetailRead → Bool
+readTooLarge r = eqb (detailNumber r) badNumber
+
+abbrev pub readUnbuilt : DetailRead → Bool
+readUnbuilt r = eqb (detailNumber r) notBuilt
+
+-- "unknown modifier"; R-1: "After `@` the run in 01 is read as a key detail is"
 abbrev pub modifierUnknown : Modifier → Bool
 modifierUnknown (name tilde word) = nameUnknown (modifierNamed word)
-modifierUnknown (keysym tilde word) = false
+modifierUnknown (keysym tilde word) = readUnknown (keyDetail word)
 
--- "Not built yet: Meta, Alt, Hyper, Super (short forms ..), `@` with a run"
-abbrev pub modifierUnbuilt : Modifier → Bool
-modifierUnbuilt (name tilde word) = nameUnbuilt (modifierNamed word)
-modifierUnbuilt (keysym tilde word) = true
+-- "a number out of range"
+abbrev pub modifierTooLarge : Modifier → Bool
+modifierTooLarge (name tilde word) = false
+modifierTooLarge (keysym tilde word) = readTooLarge (keyDetail word)
 
 abbrev pub anyUnknown : ModifierList → Bool
 anyUnknown list = any modifierUnknown (modifiersOf list)
 
-abbrev pub anyUnbuilt : ModifierList → Bool
-anyUnbuilt list = any modifierUnbuilt (modifiersOf list)
-
--- `<Meta>`
-abbrev pub addsMeta : Added → Bool
-addsMeta Added.Nothing = false
-addsMeta (Added.Modifier k) = false
-addsMeta Added.AnyButton = false
-addsMeta Added.Meta = true
+abbrev pub anyTooLarge : ModifierList → Bool
+anyTooLarge list = any modifierTooLarge (modifiersOf list)
 
 -- ---- Details
 
@@ -63,15 +63,6 @@ fixes (Detail.Value v) = true
 -- a detail that is written: "`<Btn1Down>` fixes the detail, so a written one is refused"
 unfoldable pub detailOf : EventType → List ℕ → DetailRead
 detailOf ty word = cond (fixes (ty .detail)) DetailRead.Unknown (detailNamed (ty .code) word)
-
-abbrev pub readUnknown : DetailRead → Bool
-readUnknown r = eqb (detailNumber r) unknownName
-
-abbrev pub readTooLarge : DetailRead → Bool
-readTooLarge r = eqb (detailNumber r) badNumber
-
-abbrev pub readUnbuilt : DetailRead → Bool
-readUnbuilt r = eqb (detailNumber r) notBuilt
 
 abbrev pub readValue : DetailRead → Detail
 readValue (DetailRead.Value v) = Detail.Value v
@@ -122,11 +113,11 @@ abbrev pub isUnknown : Written → EventType → Bool
 isUnknown w ty = anyUnknown (w .list) || detailUnknown ty (w .detail)
 
 abbrev pub isOutOfRange : Written → EventType → Bool
-isOutOfRange w ty = countBad (ty .code) (w .count) || detailTooLarge ty (w .detail)
+isOutOfRange w ty = anyTooLarge (w .list) || countBad (ty .code) (w .count) || detailTooLarge ty (w .detail)
 
+-- R-1: "10 no longer for these"
 abbrev pub isUnbuilt : Written → EventType → Bool
-isUnbuilt w ty =
-    anyUnbuilt (w .list) || addsMeta (ty .added) || countUnbuilt (w .count) || detailUnbuilt ty (w .detail)
+isUnbuilt w ty = countUnbuilt (w .count) || detailUnbuilt ty (w .detail)
 
 -- "a written modifier list (`!`, `:`, `None`, `Any` too) on an event type outside codes 2..8"
 abbrev pub isListNotTaken : Written → EventType → Bool
@@ -140,22 +131,32 @@ hasStandard w ty = has (w .list) shiftBit || has (w .list) lockBit || addsBit (t
 abbrev pub isColonMisplaced : Written → EventType → Bool
 isColonMisplaced w ty = hasColon (w .list) && (not (isKey (ty .code)) || hasStandard w ty)
 
+-- "no 13-bit modifier state meets the event's test"; R-1: "8 as if these names weren't there"
+unfoldable pub isImpossible : Written → EventType → Bool
+isImpossible w ty = noStateMeets (setMask (w .list) (ty .added)) (clearMask (w .list)) (keepsClause (w .list) (ty .added))
+
+-- R-1: "An event with such a name keeps `!` and its plain names, clear ones too, as written"; any other the bits that `!` asks clear
+unfoldable pub keptClear : ModifierList → Added → ℕ
+keptClear list added = cond (hasNames list added) (mask (listsClear list)) (clearMask list)
+
+abbrev pub keptBang : ModifierList → Added → Bool
+keptBang list added = hasNames list added && asksOthersClear list
+
 -- the event that is kept
 unfoldable pub keptEvent : Written → EventType → KeptEvent
 keptEvent w ty =
     record {
       code = ty .code;
       set = setMask (w .list) (ty .added);
-      clear = clearMask (w .list);
+      clear = keptClear (w .list) (ty .added);
       colon = hasColon (w .list);
       clause = keepsClause (w .list) (ty .added);
       detail = keptDetail ty (w .detail);
       count = countValue (w .count);
+      bang = keptBang (w .list) (ty .added);
+      names = namesMask (w .list) (ty .added);
+      keysyms = keysymsIn (keysymsOf (w .list));
     }
-
--- "no 13-bit modifier state meets the event's test"
-abbrev pub isImpossible : KeptEvent → Bool
-isImpossible e = noStateMeets (e .set) (e .clear) (e .clause)
 
 -- "event by event 5, 6, 10, 7, 9, 8"
 unfoldable pub eventNumber : Written → EventType → ℕ
@@ -166,19 +167,23 @@ eventNumber w ty =
     (isUnbuilt w ty)
     (isListNotTaken w ty)
     (isColonMisplaced w ty)
-    (isImpossible (keptEvent w ty))
+    (isImpossible w ty)
 
-abbrev pub keepUnless : ℕ → KeptEvent → Judged
-keepUnless n e = cond (eqb n noRefusal) (Judged.Keep e) (Judged.Refuse n)
+-- where no number of these refuses it, "over four different keysyms in an event is 11"
+abbrev pub keepUnless : ℕ → (crowded : Bool) → KeptEvent → Judged
+keepUnless n crowded e = cond (eqb n noRefusal) (cond crowded Judged.Crowded (Judged.Keep e)) (Judged.Refuse n)
+
+abbrev pub numberUnless : ℕ → (crowded : Bool) → ℕ
+numberUnless n crowded = cond (eqb n noRefusal) (cond crowded pastLimit noRefusal) n
 
 -- an unknown type is 5 whatever else is written
 abbrev pub typedNumber : Written → TypeName → ℕ
-typedNumber w (TypeName.Known ty) = eventNumber w ty
+typedNumber w (TypeName.Known ty) = numberUnless (eventNumber w ty) (isCrowded (w .list))
 typedNumber w TypeName.Unknown = unknownName
 
 -- the event that is kept, or its number
 abbrev pub judgedAs : Written → TypeName → Judged
-judgedAs w (TypeName.Known ty) = keepUnless (eventNumber w ty) (keptEvent w ty)
+judgedAs w (TypeName.Known ty) = keepUnless (eventNumber w ty) (isCrowded (w .list)) (keptEvent w ty)
 judgedAs w TypeName.Unknown = Judged.Refuse unknownName
 
 unfoldable pub judgedWritten : Written → Judged
@@ -187,16 +192,27 @@ judgedWritten w = judgedAs w (typeNamed (w .typeName))
 -- ---- Characters of a key sequence
 
 -- "each a KeyPress. No other bit is tested and there is no colon."
-abbrev pub keyPressOf : ℕ → ℕ → KeptEvent
-keyPressOf set byte =
-    record { code = keyPress; set = set; clear = 0; colon = false; clause = false; detail = Detail.Value byte; count = 1 }
+abbrev pub keyPressOf : (set names : ℕ) → ℕ → KeptEvent
+keyPressOf set names byte =
+    record {
+      code = keyPress;
+      set = set;
+      clear = 0;
+      colon = false;
+      clause = false;
+      detail = Detail.Value byte;
+      count = 1;
+      bang = false;
+      names = names;
+      keysyms = noKeysyms;
+    }
 
--- "`^` adds Ctrl, and `\` quotes"; "`$` with its one further byte" is not built yet
+-- "`^` adds Ctrl, and `\` quotes"; R-1: "`<Meta>` and `$` read as Meta listed"
 abbrev pub judgedMark : KeyMark → ℕ → Judged
-judgedMark KeyMark.Plain byte = Judged.Keep (keyPressOf 0 byte)
-judgedMark KeyMark.Control byte = Judged.Keep (keyPressOf (2 ^ ctrlBit) byte)
-judgedMark KeyMark.Quoted byte = Judged.Keep (keyPressOf 0 byte)
-judgedMark KeyMark.Meta byte = Judged.Refuse notBuilt
+judgedMark KeyMark.Plain byte = Judged.Keep (keyPressOf 0 0 byte)
+judgedMark KeyMark.Control byte = Judged.Keep (keyPressOf (2 ^ ctrlBit) 0 byte)
+judgedMark KeyMark.Quoted byte = Judged.Keep (keyPressOf 0 0 byte)
+judgedMark KeyMark.Meta byte = Judged.Keep (keyPressOf 0 (2 ^ formBit false metaName) byte)
 
 unfoldable pub judged : WrittenEvent → Judged
 judged (event w) = judgedWritten w

@@ -1,14 +1,13 @@
 -- Document 01, "Modifier tests", "Keyboard lookup": from a keycode, Shift and Lock to a keysym.
-use Prim.Native.Nat.{ℕ, _+_, _-_, _*_}
+use Prim.Native.Nat.{ℕ, _+_, _-_}
 use mathlib.Core.Bool.{Bool, true, false, cond, _||_}
 use mathlib.Core.List.{List, [], _∷_}
 use lib.Dec.{eqb}
-use lib.ListN.{getD}
 use Rattle.model.specs.Lists.{any}
 use Rattle.model.specs.Bytes.{inRange}
 use Rattle.model.specs.Names.{shiftBit, lockBit}
 use Rattle.model.specs.Modifiers.{bit}
-use Rattle.model.specs.Setting.{Setting}
+use Rattle.model.specs.Setting.{Setting, firstKeysym, secondKeysym}
 use Rattle.model.specs.Asked.{Test, asked, caresFor}
 use Rattle.model.specs.declared.events.KeptEvent.{KeptEvent}
 
@@ -28,13 +27,6 @@ unfoldable pub lower : ℕ → ℕ
 lower k = cond (isUpper k) (k + 0x20) k
 
 -- ---- Lookup
-
--- "248 pairs, keycodes 8..255": the keysyms that the map has for a keycode
-abbrev pub firstKeysym : List ℕ → ℕ → ℕ
-firstKeysym map keycode = getD map (2 * (keycode - 8)) 0
-
-abbrev pub secondKeysym : List ℕ → ℕ → ℕ
-secondKeysym map keycode = getD map (2 * (keycode - 8) + 1) 0
 
 -- "If the second keysym is 0, a Latin-1 letter becomes its lower and upper pair; any other is doubled. Shift picks the second."
 unfoldable pub picked : ℕ → ℕ → Bool → ℕ

@@ -13,7 +13,9 @@ pub mod Tables
 pub mod Counts
 pub mod Judging
 pub mod Compiling
+pub mod Named
 pub mod Setting
+pub mod Resolving
 pub mod Asked
 pub mod Keyboard
 pub mod Records
@@ -25,3 +27,4 @@ pub mod Canonical
 pub mod Demand
 pub mod Examples
 pub mod TestedExamples
+pub mod NamedExamples

@@ -48,3 +48,14 @@ mapLength = 496
 -- "event not 32 bytes"
 abbrev pub recordLength : ℕ
 recordLength = 32
+
+-- R-1: "eight rows of equal length, 1 to 8 keycodes"
+abbrev pub modifierRows : ℕ
+modifierRows = 8
+
+abbrev pub rowLimit : ℕ
+rowLimit = 8
+
+-- R-1: "over four different keysyms in an event is 11"
+abbrev pub keysymsOfEventLimit : ℕ
+keysymsOfEventLimit = 4

@@ -11,6 +11,7 @@ use Rattle.model.specs.Names.{firstButtonBit, lastButtonBit}
 use Rattle.model.specs.Bytes.{inRange}
 use Rattle.model.specs.Modifiers.{isShiftOrLock}
 use Rattle.model.specs.Setting.{Setting}
+use Rattle.model.specs.Resolving.{resolves}
 use Rattle.model.specs.Asked.{Test, asked, testMet, caresFor}
 use Rattle.model.specs.Keyboard.{keyMatches}
 use Rattle.model.specs.Tables.{Production, Table}
@@ -87,10 +88,10 @@ testsByClause t k = t .clause && inRange firstButtonBit k lastButtonBit
 abbrev pub testsByColon : KeptEvent → ℕ → Bool
 testsByColon e k = e .colon && asksDetail (e .detail) && isShiftOrLock k
 
--- "if some event asks for it set or clear"
+-- "if some event asks for it set or clear"; R-1: "a bit that a name resolves to counts as tested", beside a colon too
 unfoldable pub eventTests : Setting → KeptEvent → ℕ → Bool
 eventTests setting e k =
-    caresFor (asked setting e) k || testsByClause (asked setting e) k || testsByColon e k
+    caresFor (asked setting e) k || testsByClause (asked setting e) k || testsByColon e k || resolves setting e k
 
 unfoldable pub tests : Setting → Table → ℕ → Bool
 tests setting t k = any (λ p. any (λ e. eventTests setting e k) (p .events)) (t .productions)

@@ -6,6 +6,7 @@ use Rattle.model.specs.Lists.{any, those}
 use Rattle.model.specs.Tables.{Call, Production, Table}
 use Rattle.model.specs.Compiling.{passesLimit}
 use Rattle.model.specs.declared.events.Detail.{Detail}
+use Rattle.model.specs.declared.events.Keysyms.{Keysyms}
 use Rattle.model.specs.declared.events.KeptEvent.{KeptEvent}
 use Rattle.model.specs.declared.events.Directive.{Directive}
 
@@ -17,9 +18,20 @@ sameDetail Detail.Unspecified (Detail.Value w) = false
 sameDetail (Detail.Value v) Detail.Unspecified = false
 sameDetail (Detail.Value v) (Detail.Value w) = eqb v w
 
-abbrev pub sameTest : KeptEvent → KeptEvent → Bool
-sameTest e f =
+abbrev pub samePlain : KeptEvent → KeptEvent → Bool
+samePlain e f =
     eqb (e .set) (f .set) && eqb (e .clear) (f .clear) && Bool·beq (e .colon) (f .colon) && Bool·beq (e .clause) (f .clause)
+
+unfoldable pub sameKeysyms : Keysyms → Keysyms → Bool
+sameKeysyms a b =
+    eqb (a .first) (b .first) && eqb (a .second) (b .second) && eqb (a .third) (b .third) && eqb (a .fourth) (b .fourth)
+
+-- R-1: "merging compares names as names", and `!` beside them as written
+abbrev pub sameNames : KeptEvent → KeptEvent → Bool
+sameNames e f = Bool·beq (e .bang) (f .bang) && eqb (e .names) (f .names) && sameKeysyms (e .keysyms) (f .keysyms)
+
+abbrev pub sameTest : KeptEvent → KeptEvent → Bool
+sameTest e f = samePlain e f && sameNames e f
 
 -- events as kept, before expansion
 unfoldable pub sameEvent : KeptEvent → KeptEvent → Bool

@@ -42,8 +42,14 @@ mask test = sumBits test bits
 
 abbrev pub isBit : ℕ → ModifierName → Bool
 isBit k (ModifierName.Bit n) = eqb n k
-isBit k ModifierName.NotBuilt = false
+isBit k (ModifierName.Named n) = false
 isBit k ModifierName.Unknown = false
+
+-- R-1: Meta, Alt, Hyper or Super
+abbrev pub isNamed : ℕ → ModifierName → Bool
+isNamed k (ModifierName.Bit n) = false
+isNamed k (ModifierName.Named n) = eqb n k
+isNamed k ModifierName.Unknown = false
 
 -- the modifier lists bit k, with `~` or without
 abbrev pub lists : Bool → ℕ → Modifier → Bool
@@ -148,3 +154,7 @@ noStateMeets set clear clause =
 -- it asks the bit set or clear
 abbrev pub asksBit : KeptEvent → ℕ → Bool
 asksBit e k = bit k (e .set) || bit k (e .clear)
+
+-- testable bits are 13, beside a colon 11
+abbrev pub isTestable : KeptEvent → ℕ → Bool
+isTestable e k = not (e .colon && isShiftOrLock k)

@@ -4,7 +4,7 @@ use Prim.Native.String.{String}
 use mathlib.Core.Bool.{Bool, cond}
 use mathlib.Core.List.{List, [], _∷_, _++_}
 use Rattle.model.specs.Lists.{bytes, same}
-use Rattle.model.specs.Numbers.{noRefusal, unknownName, notBuilt}
+use Rattle.model.specs.Numbers.{noRefusal, unknownName}
 use Rattle.model.specs.declared.events.Detail.{Detail}
 use Rattle.model.specs.declared.names.Added.{Added}
 use Rattle.model.specs.declared.names.TypeName.{TypeName}
@@ -45,10 +45,23 @@ firstButtonBit = 8
 abbrev pub lastButtonBit : ℕ
 lastButtonBit = 12
 
--- "unknown modifier", "Not built yet: Meta, Alt, Hyper, Super"
+-- R-1: "Meta, Alt, Hyper, Super", in this order, numbered from 0
+abbrev pub metaName : ℕ
+metaName = 0
+
+abbrev pub altName : ℕ
+altName = 1
+
+abbrev pub hyperName : ℕ
+hyperName = 2
+
+abbrev pub superName : ℕ
+superName = 3
+
+-- "unknown modifier"
 abbrev pub modifierNumber : ModifierName → ℕ
 modifierNumber (ModifierName.Bit k) = noRefusal
-modifierNumber ModifierName.NotBuilt = notBuilt
+modifierNumber (ModifierName.Named n) = noRefusal
 modifierNumber ModifierName.Unknown = unknownName
 
 abbrev pub modifier : String → ModifierName → Entry ModifierName
@@ -73,15 +86,15 @@ modifierEntries =
     ∷ modifier "Button3" (ModifierName.Bit 10)
     ∷ modifier "Button4" (ModifierName.Bit 11)
     ∷ modifier "Button5" (ModifierName.Bit 12)
-    -- "Not built yet: Meta, Alt, Hyper, Super (short forms ..)"; the short forms are Appendix B's
-    ∷ modifier "Meta" ModifierName.NotBuilt
-    ∷ modifier "m" ModifierName.NotBuilt
-    ∷ modifier "Hyper" ModifierName.NotBuilt
-    ∷ modifier "h" ModifierName.NotBuilt
-    ∷ modifier "Super" ModifierName.NotBuilt
-    ∷ modifier "su" ModifierName.NotBuilt
-    ∷ modifier "Alt" ModifierName.NotBuilt
-    ∷ modifier "a" ModifierName.NotBuilt
+    -- R-1: "Meta, Alt, Hyper, Super, their short forms", which are Appendix B's
+    ∷ modifier "Meta" (ModifierName.Named metaName)
+    ∷ modifier "m" (ModifierName.Named metaName)
+    ∷ modifier "Hyper" (ModifierName.Named hyperName)
+    ∷ modifier "h" (ModifierName.Named hyperName)
+    ∷ modifier "Super" (ModifierName.Named superName)
+    ∷ modifier "su" (ModifierName.Named superName)
+    ∷ modifier "Alt" (ModifierName.Named altName)
+    ∷ modifier "a" (ModifierName.Named altName)
     ∷ []
 
 unfoldable pub modifierNamed : List ℕ → ModifierName
@@ -176,7 +189,7 @@ synonymEntries =
     ∷ []
 
 -- Appendix B, "The supported abbreviations are"; 01: "`<Ctrl>` and `<Shift>` add that modifier to KeyPress; `<Btn1Motion>`
--- adds Button1; `<BtnMotion>` asks for at least one button; `<Btn1Down>` fixes the detail"
+-- adds Button1; `<BtnMotion>` asks for at least one button; `<Btn1Down>` fixes the detail"; R-1: "`<Meta>` .. read as Meta listed"
 unfoldable pub abbreviationEntries : List (Entry TypeName)
 abbreviationEntries =
     eventType "Ctrl" 2 (Added.Modifier ctrlBit) Detail.Unspecified

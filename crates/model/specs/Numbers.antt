@@ -87,6 +87,10 @@ notThere = 16
 abbrev pub alreadyMerged : ℕ
 alreadyMerged = 17
 
+-- R-1: "18 for a modifier map of another length or with an entry 1..7"
+abbrev pub badModifierMap : ℕ
+badModifierMap = 18
+
 -- ---- The order of the checks (that of compiling, which goes by lines, is `compileOutcome` of Compiling)
 
 pub record Check : Type 0 where
@@ -114,6 +118,8 @@ eventOrder unknown range unbuilt list colon impossible =
 pub record MatchChecks : Type 0 where
   -- 1
   pub short : Bool
+  -- 18
+  pub modifiersBad : Bool
   -- 12
   pub tableBroken : Bool
   -- 14
@@ -123,11 +129,12 @@ pub record MatchChecks : Type 0 where
   -- 15
   pub full : Bool
 
--- "Matcher: 1, 12, 14, 13, 15."
+-- "Matcher: 1, 12, 14, 13, 15."; R-1: "18 .. after 1"
 abbrev pub matchOrder : MatchChecks → ℕ
 matchOrder c =
     first
     (record { applies = c .short; number = shortBuffer }
+    ∷ record { applies = c .modifiersBad; number = badModifierMap }
     ∷ record { applies = c .tableBroken; number = tableNotWhole }
     ∷ record { applies = c .stateBroken; number = stateNotWhole }
     ∷ record { applies = c .recordBad; number = badRecord }
@@ -221,6 +228,7 @@ locatedLength (Located.Refused n) = 0
 
 abbrev pub judgedNumber : Judged → ℕ
 judgedNumber (Judged.Keep e) = noRefusal
+judgedNumber Judged.Crowded = pastLimit
 judgedNumber (Judged.Refuse n) = n
 
 abbrev pub recordNumber : RecordRead → ℕ

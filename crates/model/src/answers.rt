@@ -5,6 +5,8 @@ use crate::events::KeptEvent;
 // An event of a text, judged.
 pub enum Judged {
     Keep(KeptEvent),
+    // It names more keysyms after `@` than an event may: a limit of its line, which is judged after all its events.
+    Crowded,
     Refuse(u8),
 }
 

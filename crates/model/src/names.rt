@@ -8,7 +8,7 @@ pub enum Added {
     Modifier(u8),
     // At least one button.
     AnyButton,
-    // Not built yet.
+    // Meta is listed.
     Meta,
 }
 
@@ -27,8 +27,8 @@ pub enum TypeName {
 pub enum ModifierName {
     // A modifier bit, 0..12.
     Bit(u8),
-    // Meta, Alt, Hyper, Super and their short forms.
-    NotBuilt,
+    // Meta, Alt, Hyper or Super, 0..3: the modifier map gives its bits.
+    Named(u8),
     Unknown,
 }
 
