@@ -13,11 +13,10 @@ use Rattle.words.specs.Words.{wordAt}
 use Rattle.words.proofs.Bools.{and-left, and-both, chain-parts}
 use Rattle.keyboard.specs.Folds.{fold, folded}
 use Rattle.keyboard.proofs.Folds.{asked-in}
-use Rattle.model.specs.Setting.{Setting}
+use Rattle.model.specs.Setting.{Setting, firstKeysym, secondKeysym}
 use Rattle.model.specs.Asked.{asked, testMet}
 use Rattle.model.specs.Counts.{quick}
 use Rattle.model.specs.Matching.{detailMet}
-use Rattle.model.specs.Keyboard.{firstKeysym, secondKeysym}
 use Rattle.model.specs.Modifiers.{bitsMet, clauseMet, stateMeets}
 use Rattle.model.specs.declared.events.Event.{Event}
 use Rattle.modifiers.proofs.Meeting.{bits-met}

@@ -24,8 +24,7 @@ use lib.Dec.{eqb, leb}
 use Rattle.words.specs.Words.{wordAt}
 use Rattle.words.specs.Runs.{run}
 use Rattle.keyboard.specs.Folds.{fold, folded}
-use Rattle.model.specs.Keyboard.{firstKeysym, secondKeysym}
-use Rattle.model.specs.Setting.{Setting}
+use Rattle.model.specs.Setting.{Setting, firstKeysym, secondKeysym}
 use Rattle.model.specs.Counts.{expanded}
 use Rattle.model.specs.declared.events.Event.{Event}
 use Rattle.tables.specs.Layout.{codesAt, countsAt, setsAt, lowsAt}

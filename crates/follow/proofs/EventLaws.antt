@@ -6,9 +6,8 @@ use mathlib.Core.Bool.{Bool, true, false, _&&_}
 use mathlib.Core.List.{List}
 use mathlib.Core.Option.{Option}
 use lib.Dec.{eqb}
-use Rattle.model.specs.Keyboard.{firstKeysym, secondKeysym}
 use Rattle.model.specs.Modifiers.{stateMeets}
-use Rattle.model.specs.Setting.{Setting}
+use Rattle.model.specs.Setting.{Setting, firstKeysym, secondKeysym}
 use Rattle.model.specs.Asked.{asked, testMet}
 use Rattle.model.specs.Counts.{Element, quick}
 use Rattle.model.specs.Matching.{detailMet, meets, inTime, fits}

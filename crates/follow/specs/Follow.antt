@@ -7,8 +7,7 @@ use mathlib.Core.List.{List, [], _∷_}
 use mathlib.Core.Option.{Option, some}
 use lib.Dec.{eqb, leb}
 use lib.ListN.{length, getD}
-use Rattle.model.specs.Keyboard.{firstKeysym, secondKeysym}
-use Rattle.model.specs.Setting.{Setting}
+use Rattle.model.specs.Setting.{Setting, firstKeysym, secondKeysym}
 use Rattle.model.specs.Asked.{asked, testMet}
 use Rattle.model.specs.Counts.{Element, element, quick}
 use Rattle.model.specs.Matching.{detailMet, fits}

@@ -6,9 +6,9 @@ use mathlib.Core.Bool.{Bool, true, false, _&&_, _||_, false≢true}
 use lib.Dec.{eqb, leb}
 use borrow.Author.Tests.{leb-true}
 use Rattle.model.specs.Bytes.{inRange}
-use Rattle.model.specs.Keyboard.{isLower, isUpper, keysymOf, pairMatches, keyMatches, firstKeysym, secondKeysym, matchesWithColon, matchesWithout}
+use Rattle.model.specs.Keyboard.{isLower, isUpper, keysymOf, pairMatches, keyMatches, matchesWithColon, matchesWithout}
 use Rattle.model.specs.Modifiers.{bit}
-use Rattle.model.specs.Setting.{Setting}
+use Rattle.model.specs.Setting.{Setting, firstKeysym, secondKeysym}
 use Rattle.model.specs.Asked.{Test, asked}
 use Rattle.model.specs.declared.events.KeptEvent.{KeptEvent}
 use Rattle.keyboard.specs.Pairs.{pairAsked, lockGives, pairGives}

@@ -3,10 +3,11 @@ use Prim.Native.Nat.{ℕ}
 use mathlib.Core.Bool.{Bool, cond, _||_}
 use mathlib.Core.List.{List}
 use lib.Dec.{eqb}
+use Rattle.model.specs.Setting.{firstKeysym, secondKeysym}
 use Rattle.model.specs.Lists.{any}
 use Rattle.model.specs.Names.{shiftBit, lockBit}
 use Rattle.model.specs.Modifiers.{bit}
-use Rattle.model.specs.Keyboard.{firstKeysym, secondKeysym, keysymOf, settings, matchesWithColon, matchesWithout}
+use Rattle.model.specs.Keyboard.{keysymOf, settings, matchesWithColon, matchesWithout}
 use Rattle.keyboard.specs.declared.Pair.{Pair}
 
 -- the keysyms that the map has for a keycode

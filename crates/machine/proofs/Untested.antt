@@ -11,9 +11,9 @@ use Rattle.model.specs.Lists.{any}
 use Rattle.model.specs.Bytes.{inRange}
 use Rattle.model.specs.Names.{shiftBit, lockBit, firstButtonBit, lastButtonBit}
 use Rattle.model.specs.Modifiers.{bit, bits, isShiftOrLock, asAsked, bitsMet, clauseMet, stateMeets}
-use Rattle.model.specs.Setting.{Setting}
+use Rattle.model.specs.Setting.{Setting, firstKeysym, secondKeysym}
 use Rattle.model.specs.Asked.{Test, asked, testMet, caresFor}
-use Rattle.model.specs.Keyboard.{firstKeysym, secondKeysym, keysymOf, matchesWithColon, settings, matchesWithout, pairMatches, keyMatches}
+use Rattle.model.specs.Keyboard.{keysymOf, matchesWithColon, settings, matchesWithout, pairMatches, keyMatches}
 use Rattle.model.specs.Tables.{Production, Table}
 use Rattle.model.specs.Counts.{Element, element, isRelease, releasePress, pressRelease, countedPress, countedRelease, elementsAt, elementsOf, expanded, sequence, quick}
 use Rattle.model.specs.Matching.{detailMet, meets, inTime, follows, readsAsPrefix, isWholeSequence, hasType, readingOf, asksDetail, testsByClause, eventTests, tests}

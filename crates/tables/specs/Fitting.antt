@@ -1,19 +1,40 @@
 -- Which tables can be kept: document 01's limits, and each field's range.
 use Prim.Native.Nat.{ℕ, _+_}
 use mathlib.Core.Bool.{Bool, cond, not, _&&_, _||_}
-use lib.Dec.{leb, ltb}
+use lib.Dec.{eqb, leb, ltb}
 use lib.ListN.{length}
 use Rattle.model.specs.Lists.{all}
 use Rattle.model.specs.Bytes.{inRange}
 use Rattle.model.specs.Limits.{textLimit, keysymLimit}
 use Rattle.model.specs.Codes.{isEventCode, takesCount}
+use Rattle.model.specs.Named.{markedKeysym}
 use Rattle.model.specs.Compiling.{passesLimit}
 use Rattle.model.specs.Tables.{Call, Production, Table}
 use Rattle.model.specs.declared.scan.Span.{Span}
+use Rattle.model.specs.declared.events.Keysyms.{Keysyms}
 use Rattle.model.specs.declared.events.KeptEvent.{KeptEvent}
 use Rattle.tables.specs.Layout.{valueOf, allEvents, allCalls}
 
--- an event: code 2..34; count 1..9, above 1 on codes 2..5 only; bits 0..12 asked set, asked clear; detail up to 0x1FFFFFFF
+-- a keysym after `@`: none, or one with a mark
+abbrev pub keysymInRange : ℕ → Bool
+keysymInRange s = eqb s 0 || (leb 0x20000000 s && ltb s 0x80000000)
+
+-- those there are come first, "rising"
+abbrev pub comesAfter : ℕ → ℕ → Bool
+comesAfter s next = eqb next 0 || (not (eqb s 0) && ltb (markedKeysym s) (markedKeysym next))
+
+unfoldable pub keysymsInRange : Keysyms → Bool
+keysymsInRange k =
+    keysymInRange (k .first)
+    && keysymInRange (k .second)
+    && keysymInRange (k .third)
+    && keysymInRange (k .fourth)
+    && comesAfter (k .first) (k .second)
+    && comesAfter (k .second) (k .third)
+    && comesAfter (k .third) (k .fourth)
+
+-- an event: code 2..34; count 1..9, above 1 on codes 2..5 only; bits 0..12 asked set, asked clear; detail up to 0x1FFFFFFF; eight
+-- bits of names, and keysyms in their order
 unfoldable pub eventInRange : KeptEvent → Bool
 eventInRange e =
     isEventCode (e .code)
@@ -22,6 +43,8 @@ eventInRange e =
     && ltb (e .set) 8192
     && ltb (e .clear) 8192
     && leb (valueOf (e .detail)) keysymLimit
+    && ltb (e .names) 256
+    && keysymsInRange (e .keysyms)
 
 -- a part of a text of this length
 unfoldable pub spanInText : ℕ → Span → Bool

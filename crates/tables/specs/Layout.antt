@@ -1,4 +1,4 @@
--- The layout of a table in lent bytes: 2,952 words of 16 bits, the lower byte first, in sections by field. Nothing but this
+-- The layout of a table in lent bytes: 5,000 words of 16 bits, the lower byte first, in sections by field. Nothing but this
 -- crate and those of the check knows where a word stands. A table of two lines (proofs/Example computes its sections):
 --
 --     Ctrl<Key>a: f(x)
@@ -16,17 +16,18 @@
 --     1160 ..     flags                          4 4      a detail is given
 --     1416 ..     details, lower words           97 1     the keysym a, button 1
 --     1672 ..     details, upper words           0 0
---     1928 ..     marks                          0 0      of the first text
---     2056 ..     names: where they start        12 29    f, g
---     2184 ..     names: their lengths           1 1
---     2312 ..     parameters of each call        1 0
---     2440 ..     parameters: where they start   14       x
---     2696 ..     parameters: their lengths      1
+--     1928 ..     four keysyms after `@`,        0 0      eight sections: of each the lower words, then the upper ones
+--     3976 ..     marks                          0 0      of the first text
+--     4104 ..     names: where they start        12 29    f, g
+--     4232 ..     names: their lengths           1 1
+--     4360 ..     parameters of each call        1 0
+--     4488 ..     parameters: where they start   14       x
+--     4744 ..     parameters: their lengths      1
 --
 -- A section has room for the most entries that a table may have, and its unused words are 0. Entry i of a field stands at the
 -- section's first word plus i. Which parameters are a call's, and which calls and events are a production's, follows from how
 -- many those before it have: the second call's parameters begin past the first one's.
-use Prim.Native.Nat.{ℕ, zero, suc, _+_, _-_, _/_, _%_}
+use Prim.Native.Nat.{ℕ, zero, suc, _+_, _-_, _*_, _/_, _%_}
 use mathlib.Core.Bool.{Bool, cond}
 use mathlib.Core.List.{List, [], _∷_, _++_, map}
 use lib.ListN.{length}
@@ -57,7 +58,7 @@ offset (c ∷ cs) (suc j) = c + offset cs j
 
 -- ---- The sections of a table
 
--- the first word of each section: `offset capacities` 0 to 15
+-- the first word of each section: `offset capacities` 0 to 23
 
 abbrev pub productionEventsAt : ℕ
 productionEventsAt = 8
@@ -86,27 +87,51 @@ lowsAt = 1416
 abbrev pub highsAt : ℕ
 highsAt = 1672
 
+abbrev pub firstLowsAt : ℕ
+firstLowsAt = 1928
+
+abbrev pub firstHighsAt : ℕ
+firstHighsAt = 2184
+
+abbrev pub secondLowsAt : ℕ
+secondLowsAt = 2440
+
+abbrev pub secondHighsAt : ℕ
+secondHighsAt = 2696
+
+abbrev pub thirdLowsAt : ℕ
+thirdLowsAt = 2952
+
+abbrev pub thirdHighsAt : ℕ
+thirdHighsAt = 3208
+
+abbrev pub fourthLowsAt : ℕ
+fourthLowsAt = 3464
+
+abbrev pub fourthHighsAt : ℕ
+fourthHighsAt = 3720
+
 abbrev pub marksAt : ℕ
-marksAt = 1928
+marksAt = 3976
 
 abbrev pub nameStartsAt : ℕ
-nameStartsAt = 2056
+nameStartsAt = 4104
 
 abbrev pub nameLengthsAt : ℕ
-nameLengthsAt = 2184
+nameLengthsAt = 4232
 
 abbrev pub callParametersAt : ℕ
-callParametersAt = 2312
+callParametersAt = 4360
 
 abbrev pub parameterStartsAt : ℕ
-parameterStartsAt = 2440
+parameterStartsAt = 4488
 
 abbrev pub parameterLengthsAt : ℕ
-parameterLengthsAt = 2696
+parameterLengthsAt = 4744
 
 -- the length of a table in bytes, the same for all content
 abbrev pub tableLength : ℕ
-tableLength = 5904
+tableLength = 10000
 
 -- ---- Fields as words
 
@@ -126,9 +151,9 @@ abbrev pub valueOf : Detail → ℕ
 valueOf Detail.Unspecified = 0
 valueOf (Detail.Value v) = v
 
--- 1 colon, 2 clause, 4 a detail is given
+-- 1 colon, 2 clause, 4 a detail is given, 8 `!` beside names; the upper byte has the names Meta, Alt, Hyper and Super
 abbrev pub flagsWord : KeptEvent → ℕ
-flagsWord e = flag 1 (e .colon) + flag 2 (e .clause) + flag 4 (isGiven (e .detail))
+flagsWord e = flag 1 (e .colon) + flag 2 (e .clause) + flag 4 (isGiven (e .detail)) + flag 8 (e .bang) + 256 * e .names
 
 abbrev pub lowWord : KeptEvent → ℕ
 lowWord e = valueOf (e .detail) % 65536
@@ -152,6 +177,14 @@ eventFields =
     ∷ flagsWord
     ∷ lowWord
     ∷ highWord
+    ∷ (λ (e : KeptEvent). e .keysyms .first % 65536)
+    ∷ (λ (e : KeptEvent). e .keysyms .first / 65536)
+    ∷ (λ (e : KeptEvent). e .keysyms .second % 65536)
+    ∷ (λ (e : KeptEvent). e .keysyms .second / 65536)
+    ∷ (λ (e : KeptEvent). e .keysyms .third % 65536)
+    ∷ (λ (e : KeptEvent). e .keysyms .third / 65536)
+    ∷ (λ (e : KeptEvent). e .keysyms .fourth % 65536)
+    ∷ (λ (e : KeptEvent). e .keysyms .fourth / 65536)
     ∷ []
 
 -- a call's

@@ -8,9 +8,10 @@ use Rattle.words.specs.Runs.{run, total}
 use Rattle.model.specs.Tables.{Call, Production, Table}
 use Rattle.model.specs.declared.scan.Span.{Span}
 use Rattle.model.specs.declared.events.Detail.{Detail}
+use Rattle.model.specs.declared.events.Keysyms.{Keysyms}
 use Rattle.model.specs.declared.events.KeptEvent.{KeptEvent}
 use Rattle.model.specs.declared.events.Directive.{Directive}
-use Rattle.tables.specs.Layout.{productionEventsAt, productionCallsAt, codesAt, countsAt, setsAt, clearsAt, flagsAt, lowsAt, highsAt, marksAt, nameStartsAt, nameLengthsAt, callParametersAt, parameterStartsAt, parameterLengthsAt}
+use Rattle.tables.specs.Layout.{productionEventsAt, productionCallsAt, codesAt, countsAt, setsAt, clearsAt, flagsAt, lowsAt, highsAt, firstLowsAt, firstHighsAt, secondLowsAt, secondHighsAt, thirdLowsAt, thirdHighsAt, fourthLowsAt, fourthHighsAt, marksAt, nameStartsAt, nameLengthsAt, callParametersAt, parameterStartsAt, parameterLengthsAt}
 
 -- ---- The header
 
@@ -74,9 +75,19 @@ isFlag value flags = eqb (flags / value % 2) 1
 abbrev pub detailFromWord : Bool → ℕ → Detail
 detailFromWord given value = cond given (Detail.Value value) Detail.Unspecified
 
+-- the keysyms after `@`, each of two words
+unfoldable pub keysymsEntry : List ℕ → ℕ → Keysyms
+keysymsEntry l i =
+    record {
+      first = wordAt l (firstLowsAt + i) + 65536 * wordAt l (firstHighsAt + i);
+      second = wordAt l (secondLowsAt + i) + 65536 * wordAt l (secondHighsAt + i);
+      third = wordAt l (thirdLowsAt + i) + 65536 * wordAt l (thirdHighsAt + i);
+      fourth = wordAt l (fourthLowsAt + i) + 65536 * wordAt l (fourthHighsAt + i);
+    }
+
 -- an event from its words
-unfoldable pub eventFromWords : (code count set clear flags low high : ℕ) → KeptEvent
-eventFromWords code count set clear flags low high =
+unfoldable pub eventFromWords : (code count set clear flags low high : ℕ) → Keysyms → KeptEvent
+eventFromWords code count set clear flags low high keysyms =
     record {
       code = code % 256;
       set = set;
@@ -85,6 +96,9 @@ eventFromWords code count set clear flags low high =
       clause = isFlag 2 flags;
       detail = detailFromWord (isFlag 4 flags) (low + 65536 * high);
       count = count % 256;
+      bang = isFlag 8 flags;
+      names = flags / 256 % 256;
+      keysyms = keysyms;
     }
 
 unfoldable pub eventEntry : List ℕ → ℕ → KeptEvent
@@ -97,6 +111,7 @@ eventEntry l i =
     (wordAt l (flagsAt + i))
     (wordAt l (lowsAt + i))
     (wordAt l (highsAt + i))
+    (keysymsEntry l i)
 
 -- ---- Productions
 

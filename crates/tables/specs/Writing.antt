@@ -1,14 +1,15 @@
 -- Bytes with one entry written, and entries with one more.
-use Prim.Native.Nat.{ℕ, _+_}
+use Prim.Native.Nat.{ℕ, _+_, _/_, _%_}
 use mathlib.Core.Bool.{Bool}
 use mathlib.Core.List.{List, [], _∷_, _++_}
 use Rattle.words.specs.Words.{putWord}
 use Rattle.model.specs.Tables.{Call}
 use Rattle.model.specs.declared.scan.Span.{Span}
+use Rattle.model.specs.declared.events.Keysyms.{Keysyms}
 use Rattle.model.specs.declared.events.KeptEvent.{KeptEvent}
 use Rattle.model.specs.declared.events.Directive.{Directive}
 use Rattle.tables.specs.Layout.{flag, directiveWord, flagsWord, lowWord, highWord, Entries}
-use Rattle.tables.specs.Layout.{productionEventsAt, productionCallsAt, codesAt, countsAt, setsAt, clearsAt, flagsAt, lowsAt, highsAt, marksAt, nameStartsAt, nameLengthsAt, callParametersAt, parameterStartsAt, parameterLengthsAt}
+use Rattle.tables.specs.Layout.{productionEventsAt, productionCallsAt, codesAt, countsAt, setsAt, clearsAt, flagsAt, lowsAt, highsAt, firstLowsAt, firstHighsAt, secondLowsAt, secondHighsAt, thirdLowsAt, thirdHighsAt, fourthLowsAt, fourthHighsAt, marksAt, nameStartsAt, nameLengthsAt, callParametersAt, parameterStartsAt, parameterLengthsAt}
 
 -- ---- In bytes
 
@@ -19,9 +20,32 @@ putTest l i code count set clear =
 unfoldable pub putDetail : List ℕ → ℕ → (flags low high : ℕ) → List ℕ
 putDetail l i flags low high = putWord (putWord (putWord l (flagsAt + i) flags) (lowsAt + i) low) (highsAt + i) high
 
+unfoldable pub putFirstTwo : List ℕ → ℕ → (first second : ℕ) → List ℕ
+putFirstTwo l i first second =
+    putWord
+    (putWord
+    (putWord (putWord l (firstLowsAt + i) (first % 65536)) (firstHighsAt + i) (first / 65536))
+    (secondLowsAt + i) (second % 65536))
+    (secondHighsAt + i) (second / 65536)
+
+unfoldable pub putLastTwo : List ℕ → ℕ → (third fourth : ℕ) → List ℕ
+putLastTwo l i third fourth =
+    putWord
+    (putWord
+    (putWord (putWord l (thirdLowsAt + i) (third % 65536)) (thirdHighsAt + i) (third / 65536))
+    (fourthLowsAt + i) (fourth % 65536))
+    (fourthHighsAt + i) (fourth / 65536)
+
+unfoldable pub putKeysyms : List ℕ → ℕ → Keysyms → List ℕ
+putKeysyms l i k = putLastTwo (putFirstTwo l i (k .first) (k .second)) i (k .third) (k .fourth)
+
 -- event i
 unfoldable pub putEvent : List ℕ → ℕ → KeptEvent → List ℕ
-putEvent l i e = putDetail (putTest l i (e .code) (e .count) (e .set) (e .clear)) i (flagsWord e) (lowWord e) (highWord e)
+putEvent l i e =
+    putKeysyms
+    (putDetail (putTest l i (e .code) (e .count) (e .set) (e .clear)) i (flagsWord e) (lowWord e) (highWord e))
+    i
+    (e .keysyms)
 
 -- call i: its text, its name and how many parameters it has
 unfoldable pub putCall : List ℕ → ℕ → (second : Bool) (name : Span) (parameters : ℕ) → List ℕ

@@ -40,18 +40,35 @@ pub const LOWS: usize = 1416;
 
 pub const HIGHS: usize = 1672;
 
+// The keysyms after `@`, each of two words.
+pub const FIRST_LOWS: usize = 1928;
+
+pub const FIRST_HIGHS: usize = 2184;
+
+pub const SECOND_LOWS: usize = 2440;
+
+pub const SECOND_HIGHS: usize = 2696;
+
+pub const THIRD_LOWS: usize = 2952;
+
+pub const THIRD_HIGHS: usize = 3208;
+
+pub const FOURTH_LOWS: usize = 3464;
+
+pub const FOURTH_HIGHS: usize = 3720;
+
 // ---- Calls
 
-pub const MARKS: usize = 1928;
+pub const MARKS: usize = 3976;
 
-pub const NAME_STARTS: usize = 2056;
+pub const NAME_STARTS: usize = 4104;
 
-pub const NAME_LENGTHS: usize = 2184;
+pub const NAME_LENGTHS: usize = 4232;
 
-pub const CALL_PARAMETERS: usize = 2312;
+pub const CALL_PARAMETERS: usize = 4360;
 
 // ---- Parameters
 
-pub const PARAMETER_STARTS: usize = 2440;
+pub const PARAMETER_STARTS: usize = 4488;
 
-pub const PARAMETER_LENGTHS: usize = 2696;
+pub const PARAMETER_LENGTHS: usize = 4744;

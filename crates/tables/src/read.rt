@@ -3,11 +3,12 @@ use crate::places;
 use model::events::Detail;
 use model::events::Directive;
 use model::events::KeptEvent;
+use model::events::Keysyms;
 use model::scan::Span;
 ghost use mathlib.Core.Path.{_≡_};
 ghost use Prim.Native.Nat.{_+_, _*_, _≤_, _<_};
 ghost use lib.ListN.{length};
-ghost use Rattle.tables.specs.Reading.{directiveIn, mergedIn, firstLengthIn, secondLengthIn, productionTotal, eventTotal, callTotal, parameterTotal, parameterEntry, markEntry, nameEntry, callParameters, firstParameter, isFlag, detailFromWord, eventFromWords, eventEntry, productionEvents, productionCalls, firstEvent, firstCall};
+ghost use Rattle.tables.specs.Reading.{directiveIn, mergedIn, firstLengthIn, secondLengthIn, productionTotal, eventTotal, callTotal, parameterTotal, parameterEntry, markEntry, nameEntry, callParameters, firstParameter, isFlag, detailFromWord, keysymsEntry, eventFromWords, eventEntry, productionEvents, productionCalls, firstEvent, firstCall};
 ghost use Rattle.tables.specs.Layout.{tableLength};
 
 // ---- The header
@@ -172,8 +173,9 @@ fn event_of(
     flags: u16,
     low: u16,
     high: u16,
+    keysyms: Keysyms,
 ) -> KeptEvent
-    ensures { λ r. ⌜ r ≡ eventFromWords code count set clear flags low high ⌝ }
+    ensures { λ r. ⌜ r ≡ eventFromWords code count set clear flags low high keysyms ⌝ }
 {
     KeptEvent {
         code: (code % 256) as u8,
@@ -183,6 +185,39 @@ fn event_of(
         clause: flags / 2 % 2 == 1,
         detail: detail_of(flags, low, high),
         count: (count % 256) as u8,
+        bang: flags / 8 % 2 == 1,
+        names: (flags / 256 % 256) as u8,
+        keysyms,
+    }
+}
+
+fn joined(low: u16, high: u16) -> u32
+    ensures { λ r. ⌜ r ≡ low + 65536 * high ⌝ }
+{
+    low as u32 + 65536 * (high as u32)
+}
+
+fn keysyms_at(l: &[u8], i: usize) -> Keysyms
+    requires { ⌜ (tableLength ≤ length (now l)) × (i < 256) ⌝ }
+    ensures { λ r. ⌜ r ≡ keysymsEntry (now (l .entry)) i ⌝ }
+{
+    Keysyms {
+        first: joined(
+            words::word_at(l, places::FIRST_LOWS + i),
+            words::word_at(l, places::FIRST_HIGHS + i),
+        ),
+        second: joined(
+            words::word_at(l, places::SECOND_LOWS + i),
+            words::word_at(l, places::SECOND_HIGHS + i),
+        ),
+        third: joined(
+            words::word_at(l, places::THIRD_LOWS + i),
+            words::word_at(l, places::THIRD_HIGHS + i),
+        ),
+        fourth: joined(
+            words::word_at(l, places::FOURTH_LOWS + i),
+            words::word_at(l, places::FOURTH_HIGHS + i),
+        ),
     }
 }
 
@@ -198,5 +233,6 @@ pub fn event_at(l: &[u8], i: usize) -> KeptEvent
         words::word_at(l, places::FLAGS + i),
         words::word_at(l, places::LOWS + i),
         words::word_at(l, places::HIGHS + i),
+        keysyms_at(l, i),
     )
 }

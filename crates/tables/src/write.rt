@@ -3,13 +3,14 @@ use crate::places;
 use model::events::Detail;
 use model::events::Directive;
 use model::events::KeptEvent;
+use model::events::Keysyms;
 use model::scan::Span;
 ghost use mathlib.Core.Path.{_≡_};
-ghost use Prim.Native.Nat.{_+_, _≤_, _<_};
+ghost use Prim.Native.Nat.{_+_, _*_, _≤_, _<_};
 ghost use lib.ListN.{length};
 ghost use Rattle.words.specs.Words.{cleared};
 ghost use Rattle.tables.specs.Layout.{flag, isGiven, valueOf, directiveWord, tableLength};
-ghost use Rattle.tables.specs.Writing.{putTest, putDetail, putEvent, putCall, putParameter, putProduction, putTexts, putCounts};
+ghost use Rattle.tables.specs.Writing.{putTest, putDetail, putFirstTwo, putLastTwo, putKeysyms, putEvent, putCall, putParameter, putProduction, putTexts, putCounts};
 
 // The empty table.
 pub fn clear(out: &mut [u8])
@@ -64,10 +65,39 @@ fn put_detail(out: &mut [u8], i: usize, flags: u16, low: u16, high: u16)
     words::put_word(out, places::HIGHS + i, high);
 }
 
-fn flags_of(colon: bool, clause: bool, given: bool) -> u16
-    ensures { λ r. ⌜ r ≡ flag 1 colon + flag 2 clause + flag 4 given ⌝ }
+fn flags_of(colon: bool, clause: bool, given: bool, bang: bool, names: u8) -> u16
+    ensures { λ r. ⌜ r ≡ flag 1 colon + flag 2 clause + flag 4 given + flag 8 bang + 256 * names ⌝ }
 {
-    flag_word(1, colon) + flag_word(2, clause) + flag_word(4, given)
+    let low = flag_word(1, colon) + flag_word(2, clause) + flag_word(4, given) + flag_word(8, bang);
+    low + 256 * (names as u16)
+}
+
+fn put_first_two(out: &mut [u8], i: usize, first: u32, second: u32)
+    requires { ⌜ (tableLength ≤ length (now out)) × (i < 256) ⌝ }
+    ensures { λ r. ⌜ now (out .exit) ≡ putFirstTwo (now (out .entry)) i first second ⌝ }
+{
+    words::put_word(out, places::FIRST_LOWS + i, (first % 65536) as u16);
+    words::put_word(out, places::FIRST_HIGHS + i, (first / 65536) as u16);
+    words::put_word(out, places::SECOND_LOWS + i, (second % 65536) as u16);
+    words::put_word(out, places::SECOND_HIGHS + i, (second / 65536) as u16);
+}
+
+fn put_last_two(out: &mut [u8], i: usize, third: u32, fourth: u32)
+    requires { ⌜ (tableLength ≤ length (now out)) × (i < 256) ⌝ }
+    ensures { λ r. ⌜ now (out .exit) ≡ putLastTwo (now (out .entry)) i third fourth ⌝ }
+{
+    words::put_word(out, places::THIRD_LOWS + i, (third % 65536) as u16);
+    words::put_word(out, places::THIRD_HIGHS + i, (third / 65536) as u16);
+    words::put_word(out, places::FOURTH_LOWS + i, (fourth % 65536) as u16);
+    words::put_word(out, places::FOURTH_HIGHS + i, (fourth / 65536) as u16);
+}
+
+fn put_keysyms(out: &mut [u8], i: usize, k: Keysyms)
+    requires { ⌜ (tableLength ≤ length (now out)) × (i < 256) ⌝ }
+    ensures { λ r. ⌜ now (out .exit) ≡ putKeysyms (now (out .entry)) i k ⌝ }
+{
+    put_first_two(out, i, k.first, k.second);
+    put_last_two(out, i, k.third, k.fourth);
 }
 
 pub fn put_event(out: &mut [u8], i: usize, e: KeptEvent)
@@ -77,7 +107,8 @@ pub fn put_event(out: &mut [u8], i: usize, e: KeptEvent)
     let code = e.code;
     let count = e.count;
     let d = e.detail;
-    let flags = flags_of(e.colon, e.clause, is_given(d));
+    let k = e.keysyms;
+    let flags = flags_of(e.colon, e.clause, is_given(d), e.bang, e.names);
     let value = value_of(d);
     put_test(out, i, code as u16, count as u16, e.set, e.clear);
     put_detail(
@@ -87,6 +118,7 @@ pub fn put_event(out: &mut [u8], i: usize, e: KeptEvent)
         (value % 65536) as u16,
         (value / 65536) as u16,
     );
+    put_keysyms(out, i, k);
 }
 
 // ---- Calls and parameters
