@@ -104,7 +104,7 @@ fn is_written(e: KeptEvent, brief: bool, k: u32) -> bool
 
 fn put_bit(out: &mut [u8], at: usize, e: KeptEvent, k: u32) -> usize
     requires { ⌜ (at ≤ 8900000000) × (k < 13) ⌝ }
-    ensures { λ r. ⌜ (Put (now (out .entry)) (now (out .exit)) at r (bitText e k)) × (r ≤ at + 1238) ⌝ }
+    ensures { λ r. ⌜ (Put (now (out .entry)) (now (out .exit)) at r (bitText e k)) × (r ≤ at + 8) ⌝ }
 {
     let set = e.set;
     if modifiers::bit(k, set) {
@@ -127,7 +127,7 @@ fn has_place(e: KeptEvent, brief: bool, j: u32) -> bool
 
 fn put_place(out: &mut [u8], at: usize, e: KeptEvent, j: u32) -> usize
     requires { ⌜ (at ≤ 8700000000) × (j < 29) ⌝ }
-    ensures { λ r. ⌜ (Put (now (out .entry)) (now (out .exit)) at r (placeText e j)) × (r ≤ at + 1238) ⌝ }
+    ensures { λ r. ⌜ (Put (now (out .entry)) (now (out .exit)) at r (placeText e j)) × (r ≤ at + 12) ⌝ }
 {
     if j < 13 {
         return put_bit(out, at, e, order_at(j));
@@ -138,7 +138,7 @@ fn put_place(out: &mut [u8], at: usize, e: KeptEvent, j: u32) -> usize
 // A text that is written, with the blank that parts it from those before it: n of them. Any other writes nothing.
 fn put_nth(out: &mut [u8], at: usize, e: KeptEvent, j: u32, is: bool, n: usize) -> usize
     requires { ⌜ (at ≤ 8680000000) × (j < 29) ⌝ }
-    ensures { λ r. ⌜ (Put (now (out .entry)) (now (out .exit)) at r (cond is (separator 32 n ++ placeText e j) [])) × (r ≤ at + 1239) ⌝ }
+    ensures { λ r. ⌜ (Put (now (out .entry)) (now (out .exit)) at r (cond is (separator 32 n ++ placeText e j) [])) × (r ≤ at + 13) ⌝ }
 {
     if is {
         let next = bytes::put_separator(out, at, n, b' ');
@@ -159,7 +159,7 @@ fn counted(n: usize, is: bool) -> usize
 
 fn put_list(out: &mut [u8], at: usize, e: KeptEvent, brief: bool) -> usize
     requires { ⌜ (at ≤ 8640000000) × (brief ≡ isBrief e) ⌝ }
-    ensures { λ r. ⌜ (Put (now (out .entry)) (now (out .exit)) at r (listText e)) × (r ≤ at + 35931) ⌝ }
+    ensures { λ r. ⌜ (Put (now (out .entry)) (now (out .exit)) at r (listText e)) × (r ≤ at + 377) ⌝ }
 {
     let mut next = at;
     let mut n: usize = 0;
@@ -175,7 +175,7 @@ fn put_list(out: &mut [u8], at: usize, e: KeptEvent, brief: bool) -> usize
 
 pub fn put_modifiers(out: &mut [u8], at: usize, e: KeptEvent) -> usize
     requires { ⌜ at ≤ 8600000000 ⌝ }
-    ensures { λ r. ⌜ (Put (now (out .entry)) (now (out .exit)) at r (modifiersText e)) × (r ≤ at + 36000) ⌝ }
+    ensures { λ r. ⌜ (Put (now (out .entry)) (now (out .exit)) at r (modifiersText e)) × (r ≤ at + 400) ⌝ }
 {
     let bang = writes_bang(e);
     let brief = bang & !kept_as_written(e);

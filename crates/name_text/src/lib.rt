@@ -92,7 +92,7 @@ fn put_keysym(out: &mut [u8], at: usize, s: u32) -> usize
 // What follows `~`, or stands without it.
 fn put_word(out: &mut [u8], at: usize, e: KeptEvent, j: u32) -> usize
     requires { ⌜ (at ≤ 8800000000) × (j < 16) ⌝ }
-    ensures { λ r. ⌜ (Put (now (out .entry)) (now (out .exit)) at r (formWord e j)) × (r ≤ at + 1237) ⌝ }
+    ensures { λ r. ⌜ (Put (now (out .entry)) (now (out .exit)) at r (formWord e j)) × (r ≤ at + 11) ⌝ }
 {
     if j < 8 {
         return bytes::put_name(out, at, long_place(j / 2));
@@ -103,7 +103,7 @@ fn put_word(out: &mut [u8], at: usize, e: KeptEvent, j: u32) -> usize
 
 pub fn put_form(out: &mut [u8], at: usize, e: KeptEvent, j: u32) -> usize
     requires { ⌜ (at ≤ 8700000000) × (j < 16) ⌝ }
-    ensures { λ r. ⌜ (Put (now (out .entry)) (now (out .exit)) at r (formText e j)) × (r ≤ at + 1238) ⌝ }
+    ensures { λ r. ⌜ (Put (now (out .entry)) (now (out .exit)) at r (formText e j)) × (r ≤ at + 12) ⌝ }
 {
     let next = bytes::put_if(out, at, form_tilde(j), b'~');
     put_word(out, next, e, j)

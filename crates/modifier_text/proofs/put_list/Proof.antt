@@ -20,7 +20,7 @@ abbrev Inv-loop : tie.InvT-loop
 Inv-loop out₀ at e brief next₀ n₀ j₀ out next n j =
     (j ≤ 29)
     × (n ≤ j)
-    × (next ≤ at + 1239 * j)
+    × (next ≤ at + 13 * j)
     × (n ≡ length (writtenTo (hasPlace e) (placeText e) j))
     × Put out₀ out at next (textsTo (hasPlace e) (placeText e) j)
 

@@ -57,13 +57,14 @@ loop-again c =
     let v = c .before .before .before .loop in
     let a = c .before .before .before .before .before .args in
     let w = (length (a .maps .now) - 1984) / 8 in
-    let keysyms = a .left ∷ a .right ∷ [] in
-    (search needs,
+    let keysyms = a .left ∷ a .right ∷ [] in (
+      search needs,
       omega (arith, add-mul (v .k) 1 w),
       c .with-row .ensures
-      ∙ ap (λ (b : ℕ). cond (c .before .row-holds .result) (withBit b (v .k)) b) (v .inv .2)
-      ∙ row-bits-next (a .maps .now) keysyms (v .k) (c .before .row-holds .result)
-      (c .before .row-holds .ensures ∙ row-found (a .maps .now) keysyms (c .before .before .before .before .before .pre) (v .k) (v .at) (v .inv .1)))
+          ∙ ap (λ (b : ℕ). cond (c .before .row-holds .result) (withBit b (v .k)) b) (v .inv .2)
+          ∙ row-bits-next (a .maps .now) keysyms (v .k) (c .before .row-holds .result)
+          (c .before .row-holds .ensures ∙ row-found (a .maps .now) keysyms (c .before .before .before .before .before .pre) (v .k) (v .at) (v .inv .1)),
+    )
 
 returns : tie.Need-returns Inv-loop μ-loop
 returns c =
