@@ -3,7 +3,7 @@
 use model::events::Keysyms;
 ghost use mathlib.Core.Path.{_≡_};
 ghost use Prim.Native.Nat.{_<_};
-ghost use Rattle.model.specs.Named.{listedMark, markListed};
+ghost use Rattle.model.specs.Named.{listedMark, markListed, noKeysyms};
 ghost use Rattle.keysym_list.specs.Slots.{passed, withOneMore, SlotsIn};
 
 // The first four keysyms, and whether there are more.
@@ -16,6 +16,17 @@ pub struct Slots {
 struct Passed {
     slot: u32,
     carried: u32,
+}
+
+pub fn no_keysyms() -> Keysyms
+    ensures { λ r. ⌜ r ≡ noKeysyms ⌝ }
+{
+    Keysyms {
+        first: 0,
+        second: 0,
+        third: 0,
+        fourth: 0,
+    }
 }
 
 fn listed_mark(tilde: bool) -> u32
