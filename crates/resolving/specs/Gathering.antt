@@ -52,3 +52,29 @@ withBits r bits set clear =
       clear = bitOr (cond clear bits 0) (r .clear);
       dead = (set && eqb bits 0) || r .dead;
     }
+
+-- ---- The event
+
+-- the mask of the testable bits, of which Shift and Lock are 1 and 2
+abbrev pub testableMask : (colon : Bool) → ℕ
+testableMask colon = cond colon 8188 8191
+
+-- with `!` the bits that are not among the listed ones
+abbrev pub otherBits : (bang : Bool) → ℕ → ℕ
+otherBits bang listed = cond bang (8191 - listed) 0
+
+-- what an event asks that has these bits and marks, and names that ask so
+unfoldable pub tested : (set clear : ℕ) (colon bang : Bool) → Resolved → Resolved
+tested set clear colon bang by =
+    record {
+      set = bitOr set (bitAnd (testableMask colon) (by .set));
+      clear =
+          bitOr clear
+          (bitAnd (testableMask colon)
+          (bitOr (by .clear) (otherBits bang (bitOr (bitOr set clear) (bitOr (by .set) (by .clear))))));
+      dead = by .dead;
+    }
+
+-- a test without its clause
+abbrev pub resolvedTest : Test → Resolved
+resolvedTest t = record { set = t .set; clear = t .clear; dead = t .dead }

@@ -2,7 +2,7 @@
 use Prim.Native.Nat.{ℕ, _+_, _*_, _%_, _/_, _≤_, _<_}
 use native.Mathlib.Omega.{arith}
 use native.Mathlib.Nat.{mod-eq-of-lt, mod-add-div}
-use mathlib.Core.Path.{_≡_, refl, ap}
+use mathlib.Core.Path.{_≡_, refl, ap, _∙_}
 use mathlib.Core.List.{List, [], _∷_}
 use mathlib.Core.Bool.{Bool, true, false, not, _&&_, _||_}
 use lib.Dec.{eqb, leb, ltb}
@@ -80,6 +80,12 @@ flag-le v false = omega arith
 detail-back : (d : Detail) → detailFromWord (isGiven d) (valueOf d % 65536 + 65536 * (valueOf d / 65536)) ≡ d
 detail-back Detail.Unspecified = refl
 detail-back (Detail.Value v) = ap Detail.Value (mod-add-div v 65536)
+
+-- the flag that says that a detail is given
+pub given-flag : (e : KeptEvent) → isFlag 4 (flagsWord e) ≡ isGiven (e .detail)
+given-flag e =
+    ap (λ (k : ℕ). eqb k 1) (beside-4 (fourFlags (e .colon) (e .clause) (isGiven (e .detail)) (e .bang)) (e .names))
+    ∙ flag-bits (e .colon) (e .clause) (isGiven (e .detail)) (e .bang) .2
 
 pub keysyms-back : (k : Keysyms) → record {
   first = k .first % 65536 + 65536 * (k .first / 65536);
