@@ -19,26 +19,6 @@ use Rattle.roundtrip.proofs.Names.{wellNamed, well-named, bits-named, o
 use Rattle.roundtrip.proofs.Kept.{KeptWell}
 use Rattle.roundtrip.proofs.Written.{modifierOf, bitsOf, listOf}
 
--- one number of a list passes
-any-at : (h : ℕ → Bool) (k : ℕ) (xs : List ℕ) → any (λ j. h j && eqb j k) xs ≡ (h k && any (λ j. eqb j k) xs)
-any-at h k [] = sym (no (h k))
-  where
-    no : (b : Bool) → (b && false) ≡ false
-    no true = refl
-    no false = refl
-any-at h k (x ∷ xs) =
-    choose (eqb x k)
-    (λ q. rw (q, any-at h k xs, eqb-true x k q) (one (h k) (any (λ j. eqb j k) xs)))
-    (λ q. rw (q, any-at h k xs) (other (h x) (h k) (any (λ j. eqb j k) xs)))
-  where
-    one : (a b : Bool) → (a && true || a && b) ≡ (a && (true || b))
-    one true b = refl
-    one false b = refl
-
-    other : (c a b : Bool) → (c && false || a && b) ≡ (a && (false || b))
-    other true a b = refl
-    other false a b = refl
-
 module _ (e : KeptEvent) where
   -- what one written modifier lists
   modifier-set : (k j : ℕ) → wellNamed j ≡ true → lists false k (modifierOf e j) ≡ (bit j (e .set) && eqb j k)
