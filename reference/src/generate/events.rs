@@ -77,8 +77,9 @@ fn spoil_maps(random: &mut Random, map: &mut Vec<u32>, modifier_map: &mut Vec<u8
     }
 }
 
+/// A modifier map that is refused with 18.
 pub fn spoil_modifier_map(random: &mut Random, modifier_map: &mut Vec<u8>) {
-    if random.percent(50) {
+    if modifier_map.is_empty() || random.percent(50) {
         let lengths = [0, 1, 7, 9, 12, 15, 17, 36, 63, 65, 72, 128, 256];
         modifier_map.resize(*random.pick(&lengths), 0);
     } else {

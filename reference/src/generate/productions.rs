@@ -17,7 +17,11 @@ const MOST_PARAMETERS: usize = 24;
 pub fn productions(random: &mut Random, most: usize, longest: usize) -> Vec<ProductionContents> {
     let named = name_chance(random);
     let mut all = Vec::new();
-    for _ in 0..random.below(most + 1) {
+    let count = match random.percent(5) {
+        true => 0,
+        false => random.range(1, most),
+    };
+    for _ in 0..count {
         let mut events = (0..random.range(1, longest))
             .map(|_| event(random, named))
             .collect();
@@ -120,7 +124,7 @@ fn cut_to_limit(events: &mut Vec<EventSpec>) {
 
 /// How often, in percent, the events of a table that can have names do.
 fn name_chance(random: &mut Random) -> usize {
-    *random.pick(&[0, 40, 60, 80, 80, 100])
+    *random.pick(&[0, 40, 60, 60, 80, 80, 100, 100])
 }
 
 fn event(random: &mut Random, named: usize) -> EventSpec {
@@ -221,7 +225,6 @@ const NAMED_KEYSYMS: &[u32] = &[
     0x61,
     0x41,
     0x35,
-    0,
     LARGEST_KEYSYM,
 ];
 
@@ -230,6 +233,8 @@ pub fn name(random: &mut Random) -> Name {
         0..=2 => Name::Meta,
         3..=5 => *random.pick(&RELATIVES),
         6..=8 => Name::Keysym(*random.pick(NAMED_KEYSYMS)),
+        // Where few keys of a keyboard have both keysyms, 0 is in many rows.
+        _ if random.percent(10) => Name::Keysym(0),
         _ => Name::Keysym(keysym(random)),
     }
 }
