@@ -121,7 +121,7 @@ clause-kept setting e = refl
 
 module _ (setting : Setting) (e : KeptEvent) (x : Event) (r : EventRanges x) where
   -- the event's test, by the bits that it asks under the setting
-  meets-asked : eventMeets setting e x
+  pub meets-asked : eventMeets setting e x
       ≡ not (asked setting e .dead) && bitsMeet (setting .keyboard) (asked setting e .set) (asked setting e .clear) e x
   unfolding eventMeets testMet bitsMeet
   meets-asked =
