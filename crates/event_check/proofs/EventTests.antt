@@ -9,12 +9,13 @@ use lib.Dec.{leb, ltb, eqb}
 use borrow.Author.Tests.{leb-true, ltb-true, eqb-true, le-leb, lt-ltb, eq-eqb}
 use Rattle.words.proofs.Bools.{and-left, and-right, and-both, chain-parts, chain-all, AllTrue}
 use Rattle.model.specs.declared.events.Detail.{Detail}
+use Rattle.model.specs.declared.events.Keysyms.{Keysyms}
 use Rattle.model.specs.declared.events.KeptEvent.{KeptEvent}
 use Rattle.tables.specs.Layout.{eventFields, flag, isGiven, valueOf, flagsWord, lowWord, highWord}
 use Rattle.tables.specs.Reading.{isFlag, detailFromWord, eventFromWords}
-use Rattle.tables.specs.Fitting.{eventInRange}
+use Rattle.tables.specs.Fitting.{eventInRange, keysymsInRange}
 use Rattle.tables.proofs.Columns.{consed}
-use Rattle.tables.proofs.EventWords.{flags-below, RangeFacts, range-facts, facts-range}
+use Rattle.tables.proofs.EventWords.{fourFlags, flags-below, given-flag, RangeFacts, range-facts, facts-range}
 use Rattle.event_check.specs.Events.{eventWordsOk}
 
 or-cases : {P : Type 0} (a b : Bool) → (a || b) ≡ true → (a ≡ true → P) → (b ≡ true → P) → P
@@ -37,8 +38,8 @@ pub record EventFacts (c n s k f lo hi : ℕ) : Type 0 where
   pub counted : (leb n 1 || leb c 5) ≡ true
   pub setBelow : s < 8192
   pub clearBelow : k < 8192
-  pub flagsBelow : f < 8
-  pub detail : (leb 4 f || (eqb lo 0 && eqb hi 0)) ≡ true
+  pub spare : f / 16 % 16 ≡ 0
+  pub detail : (isFlag 4 f || (eqb lo 0 && eqb hi 0)) ≡ true
   pub highBelow : hi < 8192
 
 abbrev eventTests : (c n s k f lo hi : ℕ) → List Bool
@@ -49,8 +50,8 @@ eventTests c n s k f lo hi =
     ∷ (leb n 1 || leb c 5)
     ∷ ltb s 8192
     ∷ ltb k 8192
-    ∷ ltb f 8
-    ∷ (leb 4 f || (eqb lo 0 && eqb hi 0))
+    ∷ eqb (f / 16 % 16) 0
+    ∷ (isFlag 4 f || (eqb lo 0 && eqb hi 0))
     ∷ ltb hi 8192
     ∷ []
 
@@ -66,7 +67,7 @@ event-facts c n s k f lo hi e =
       counted = r .1 .1 .1 .1 .0;
       setBelow = ltb-true s 8192 (r .1 .1 .1 .1 .1 .0);
       clearBelow = ltb-true k 8192 (r .1 .1 .1 .1 .1 .1 .0);
-      flagsBelow = ltb-true f 8 (r .1 .1 .1 .1 .1 .1 .1 .0);
+      spare = eqb-true (f / 16 % 16) 0 (r .1 .1 .1 .1 .1 .1 .1 .0);
       detail = r .1 .1 .1 .1 .1 .1 .1 .1 .0;
       highBelow = ltb-true hi 8192 (r .1 .1 .1 .1 .1 .1 .1 .1 .1 .0);
     }
@@ -89,7 +90,7 @@ facts-event c n s k f lo hi r =
                 (
                   lt-ltb k 8192 (r .clearBelow),
                   (
-                    lt-ltb f 8 (r .flagsBelow),
+                    eq-eqb (f / 16 % 16) 0 (r .spare),
                     (
                       r .detail,
                       (lt-ltb hi 8192 (r .highBelow), tt),
@@ -110,16 +111,13 @@ counted-words c n e =
     or-cases (leb n 1) (leb 2 c && leb c 5) e (or-left (leb n 1) (leb c 5))
     (λ h. or-right (leb n 1) (leb c 5) (and-right (leb 2 c) (leb c 5) h))
 
-detail-words : (a b : Bool) (d : Detail)
-    → (leb 4 (flag 1 a + flag 2 b + flag 4 (isGiven d)) || (eqb (valueOf d % 65536) 0 && eqb (valueOf d / 65536) 0)) ≡ true
-detail-words true true (Detail.Value v) = refl
-detail-words true false (Detail.Value v) = refl
-detail-words false true (Detail.Value v) = refl
-detail-words false false (Detail.Value v) = refl
-detail-words true true Detail.Unspecified = refl
-detail-words true false Detail.Unspecified = refl
-detail-words false true Detail.Unspecified = refl
-detail-words false false Detail.Unspecified = refl
+detail-words : (g : Bool) (d : Detail) → g ≡ isGiven d → (g || (eqb (valueOf d % 65536) 0 && eqb (valueOf d / 65536) 0)) ≡ true
+detail-words g (Detail.Value v) e = rw e
+detail-words g Detail.Unspecified e = rw e
+
+-- the names stand above the flags
+spare-words : (x n : ℕ) → x < 16 → (x + 256 * n) / 16 % 16 ≡ 0
+spare-words x n h = omega arith
 
 -- the words of an event in range pass the tests
 pub range-words : (e : KeptEvent) → eventInRange e ≡ true
@@ -135,8 +133,8 @@ range-words e h =
       counted = counted-words (e .code) (e .count) (r .counted);
       setBelow = r .setBelow;
       clearBelow = r .clearBelow;
-      flagsBelow = flags-below (e .colon) (e .clause) (isGiven (e .detail));
-      detail = detail-words (e .colon) (e .clause) (e .detail);
+      spare = spare-words (fourFlags (e .colon) (e .clause) (isGiven (e .detail)) (e .bang)) (e .names) (flags-below (e .colon) (e .clause) (isGiven (e .detail)) (e .bang));
+      detail = detail-words (isFlag 4 (flagsWord e)) (e .detail) (given-flag e);
       highBelow = high-below (valueOf (e .detail)) (r .detail);
     })
   where
@@ -150,6 +148,9 @@ counted-range c n l e =
     or-cases (leb n 1) (leb c 5) e (or-left (leb n 1) (leb 2 c && leb c 5))
     (λ h. or-right (leb n 1) (leb 2 c && leb c 5) (and-both (leb 2 c) (leb c 5) (le-leb 2 c l) h))
 
+names-below : (f : ℕ) → f / 256 % 256 < 256
+names-below f = omega arith
+
 value-below : (g : Bool) (lo hi : ℕ) → lo < 65536 → hi < 8192 → valueOf (detailFromWord g (lo + 65536 * hi)) ≤ 0x1FFFFFFF
 value-below true lo hi p q = omega arith
 value-below false lo hi p q = omega arith
@@ -158,33 +159,62 @@ given-back : (g : Bool) (v : ℕ) → isGiven (detailFromWord g v) ≡ g
 given-back true v = refl
 given-back false v = refl
 
-flags-back : (f : ℕ) → f < 8 → flag 1 (isFlag 1 f) + flag 2 (isFlag 2 f) + flag 4 (isFlag 4 f) ≡ f
-flags-back zero h = refl
-flags-back (suc zero) h = refl
-flags-back (suc (suc zero)) h = refl
-flags-back (suc (suc (suc zero))) h = refl
-flags-back (suc (suc (suc (suc zero)))) h = refl
-flags-back (suc (suc (suc (suc (suc zero))))) h = refl
-flags-back (suc (suc (suc (suc (suc (suc zero)))))) h = refl
-flags-back (suc (suc (suc (suc (suc (suc (suc zero))))))) h = refl
-flags-back (suc (suc (suc (suc (suc (suc (suc (suc n)))))))) h = absurd (omega arith)
+flag-of : (v x : ℕ) → x < 2 → flag v (eqb x 1) ≡ v * x
+flag-of v zero h = omega arith
+flag-of v (suc zero) h = omega arith
+flag-of v (suc (suc x)) h = absurd (omega arith)
+
+-- a number's last four bits
+two-bits : (f : ℕ) → 1 * (f / 1 % 2) + 2 * (f / 2 % 2) ≡ f % 4
+two-bits f = omega arith
+
+three-bits : (f : ℕ) → f % 4 + 4 * (f / 4 % 2) ≡ f % 8
+three-bits f = omega arith
+
+four-bits : (f : ℕ) → f % 8 + 8 * (f / 8 % 2) ≡ f % 16
+four-bits f = omega arith
+
+above-bits : (f : ℕ) → f / 16 % 16 ≡ 0 → f % 256 ≡ f % 16
+above-bits f h = omega arith
+
+upper-byte : (f : ℕ) → f < 65536 → f % 256 + 256 * (f / 256 % 256) ≡ f
+upper-byte f b = omega arith
+
+flags-back : (f : ℕ) → f < 65536 → f / 16 % 16 ≡ 0
+    → fourFlags (isFlag 1 f) (isFlag 2 f) (isFlag 4 f) (isFlag 8 f) + 256 * (f / 256 % 256) ≡ f
+flags-back f b h =
+    rw (flag-of 1 (f / 1 % 2) (omega arith), flag-of 2 (f / 2 % 2) (omega arith), flag-of 4 (f / 4 % 2) (omega arith), flag-of 8 (f / 8 % 2) (omega arith))
+    (rw (two-bits f, three-bits f, four-bits f, ← above-bits f h) (upper-byte f b))
 
 -- the value that is kept of a detail's words: 0 where none is given, and the words are 0 there
-value-back : (f lo hi : ℕ) → f < 8 → (leb 4 f || (eqb lo 0 && eqb hi 0)) ≡ true
-    → valueOf (detailFromWord (isFlag 4 f) (lo + 65536 * hi)) ≡ lo + 65536 * hi
-value-back f lo hi h e =
-    or-cases (leb 4 f) (eqb lo 0 && eqb hi 0) e
-    (λ p. let q : isFlag 4 f ≡ true = eq-eqb (f / 4 % 2) 1 (one (leb-true 4 f p)) in rw q)
-    (λ p. rw (eqb-true lo 0 (and-left (eqb lo 0) (eqb hi 0) p), eqb-true hi 0 (and-right (eqb lo 0) (eqb hi 0) p)) (none (isFlag 4 f)))
-  where
-    one : 4 ≤ f → f / 4 % 2 ≡ 1
-    one p = omega arith
+value-back : (g : Bool) (lo hi : ℕ) → (g || (eqb lo 0 && eqb hi 0)) ≡ true → valueOf (detailFromWord g (lo + 65536 * hi)) ≡ lo + 65536 * hi
+value-back true lo hi e = refl
+value-back false lo hi e = rw (eqb-true lo 0 (and-left (eqb lo 0) (eqb hi 0) e), eqb-true hi 0 (and-right (eqb lo 0) (eqb hi 0) e))
 
-    none : (g : Bool) → valueOf (detailFromWord g (0 + 65536 * 0)) ≡ 0 + 65536 * 0
-    none true = refl
-    none false = refl
+-- halves of a number
+pub low-half : (lo hi : ℕ) → lo < 65536 → (lo + 65536 * hi) % 65536 ≡ lo
+low-half lo hi h = add-mul-mod-self-left lo 65536 hi ∙ mod-eq-of-lt h
 
-module _ (c n s k f lo hi : ℕ) (ok : eventWordsOk c n s k f lo hi ≡ true) (below : lo < 65536) where
+pub high-half : (lo hi : ℕ) → lo < 65536 → (lo + 65536 * hi) / 65536 ≡ hi
+high-half lo hi h =
+    let e : (lo + 65536 * hi) / 65536 ≡ lo / 65536 + hi = add-mul-div-left lo hi (omega arith) in
+    let z : lo / 65536 ≡ 0 = div-eq-of-lt h in
+    e ∙ rw (z, zero-add)
+
+-- the words of keysyms
+abbrev pub keysymWords : Keysyms → List ℕ
+keysymWords ks =
+    ks .first % 65536
+    ∷ ks .first / 65536
+    ∷ ks .second % 65536
+    ∷ ks .second / 65536
+    ∷ ks .third % 65536
+    ∷ ks .third / 65536
+    ∷ ks .fourth % 65536
+    ∷ ks .fourth / 65536
+    ∷ []
+
+module _ (c n s k f lo hi : ℕ) (ks : Keysyms) (ok : eventWordsOk c n s k f lo hi ≡ true) (word : f < 65536) (below : lo < 65536) where
   facts : EventFacts c n s k f lo hi
   facts = event-facts c n s k f lo hi ok
 
@@ -195,11 +225,11 @@ module _ (c n s k f lo hi : ℕ) (ok : eventWordsOk c n s k f lo hi ≡ true) (b
   count-same = let r : EventFacts c n s k f lo hi = facts in mod-eq-of-lt (omega arith)
 
   -- words that pass the tests read as an event in range
-  pub words-range : eventInRange (eventFromWords c n s k f lo hi) ≡ true
+  pub words-range : keysymsInRange ks ≡ true → eventInRange (eventFromWords c n s k f lo hi ks) ≡ true
   unfolding eventFromWords
-  words-range =
+  words-range h =
       let r : EventFacts c n s k f lo hi = facts in
-      facts-range (eventFromWords c n s k f lo hi)
+      facts-range (eventFromWords c n s k f lo hi ks)
       (record {
         codeLow = rw code-same (r .codeLow);
         codeHigh = rw code-same (r .codeHigh);
@@ -209,43 +239,46 @@ module _ (c n s k f lo hi : ℕ) (ok : eventWordsOk c n s k f lo hi ≡ true) (b
         setBelow = r .setBelow;
         clearBelow = r .clearBelow;
         detail = value-below (isFlag 4 f) lo hi below (r .highBelow);
+        namesBelow = names-below f;
+        keysyms = h;
       })
 
-  value-same : valueOf (eventFromWords c n s k f lo hi .detail) ≡ lo + 65536 * hi
+  value-same : valueOf (eventFromWords c n s k f lo hi ks .detail) ≡ lo + 65536 * hi
   unfolding eventFromWords
-  value-same = let r : EventFacts c n s k f lo hi = facts in value-back f lo hi (r .flagsBelow) (r .detail)
+  value-same = let r : EventFacts c n s k f lo hi = facts in value-back (isFlag 4 f) lo hi (r .detail)
 
   -- and the event has these words again
-  pub code-back : eventFromWords c n s k f lo hi .code ≡ c
+  pub code-back : eventFromWords c n s k f lo hi ks .code ≡ c
   unfolding eventFromWords
   code-back = code-same
 
-  pub count-back : eventFromWords c n s k f lo hi .count ≡ n
+  pub count-back : eventFromWords c n s k f lo hi ks .count ≡ n
   unfolding eventFromWords
   count-back = count-same
 
-  set-back : eventFromWords c n s k f lo hi .set ≡ s
+  set-back : eventFromWords c n s k f lo hi ks .set ≡ s
   unfolding eventFromWords
   set-back = refl
 
-  clear-back : eventFromWords c n s k f lo hi .clear ≡ k
+  clear-back : eventFromWords c n s k f lo hi ks .clear ≡ k
   unfolding eventFromWords
   clear-back = refl
 
-  flags-word-back : flagsWord (eventFromWords c n s k f lo hi) ≡ f
+  flags-word-back : flagsWord (eventFromWords c n s k f lo hi ks) ≡ f
   unfolding eventFromWords
   flags-word-back =
       let r : EventFacts c n s k f lo hi = facts in
-      rw (given-back (isFlag 4 f) (lo + 65536 * hi)) (flags-back f (r .flagsBelow))
+      rw (given-back (isFlag 4 f) (lo + 65536 * hi)) (flags-back f word (r .spare))
 
-  low-word-back : lowWord (eventFromWords c n s k f lo hi) ≡ lo
-  low-word-back = ap (λ (v : ℕ). v % 65536) value-same ∙ add-mul-mod-self-left lo 65536 hi ∙ mod-eq-of-lt below
+  low-word-back : lowWord (eventFromWords c n s k f lo hi ks) ≡ lo
+  low-word-back = ap (λ (v : ℕ). v % 65536) value-same ∙ low-half lo hi below
 
-  high-word-back : highWord (eventFromWords c n s k f lo hi) ≡ hi
-  high-word-back =
-      let e : (lo + 65536 * hi) / 65536 ≡ lo / 65536 + hi = add-mul-div-left lo hi (omega arith) in
-      let z : lo / 65536 ≡ 0 = div-eq-of-lt below in
-      ap (λ (v : ℕ). v / 65536) value-same ∙ e ∙ rw (z, zero-add)
+  high-word-back : highWord (eventFromWords c n s k f lo hi ks) ≡ hi
+  high-word-back = ap (λ (v : ℕ). v / 65536) value-same ∙ high-half lo hi below
 
-  pub words-back : map (λ (g : KeptEvent → ℕ). g (eventFromWords c n s k f lo hi)) eventFields ≡ (c ∷ n ∷ s ∷ k ∷ f ∷ lo ∷ hi ∷ [])
-  words-back = consed code-back (consed count-back (consed set-back (consed clear-back (consed flags-word-back (consed low-word-back (consed high-word-back refl))))))
+  keysyms-same : keysymWords (eventFromWords c n s k f lo hi ks .keysyms) ≡ keysymWords ks
+  unfolding eventFromWords
+  keysyms-same = refl
+
+  pub words-back : map (λ (g : KeptEvent → ℕ). g (eventFromWords c n s k f lo hi ks)) eventFields ≡ (c ∷ n ∷ s ∷ k ∷ f ∷ lo ∷ hi ∷ keysymWords ks)
+  words-back = consed code-back (consed count-back (consed set-back (consed clear-back (consed flags-word-back (consed low-word-back (consed high-word-back keysyms-same))))))

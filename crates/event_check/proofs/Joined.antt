@@ -1,16 +1,16 @@
 -- The tests of an event, some joined before they are made.
-use Prim.Native.Nat.{ℕ, _/_, _≤_}
+use Prim.Native.Nat.{ℕ, _/_, _%_}
 use native.Mathlib.Omega.{arith}
 use mathlib.Core.Path.{_≡_, refl, sym, ap, _∙_}
 use mathlib.Core.Bool.{Bool, true, false, _&&_, _||_, and-true, and-false}
 use lib.Dec.{leb, ltb, eqb}
 use lib.Bits.{bitOr}
-use borrow.Author.Tests.{leb-true, leb-false, le-leb, ltb-true, ltb-false, eqb-true, eq-eqb, ne-eqb}
+use borrow.Author.Tests.{leb-true, le-leb, eqb-true, eq-eqb}
 use Rattle.words.proofs.Bools.{same-test}
-use Rattle.words.proofs.Zeros.{or-zero-three, or-below}
+use Rattle.words.proofs.Zeros.{or-zero, or-below}
 use Rattle.event_check.specs.Events.{eventWordsOk}
 
-parts-in-order : (p s k h f d : Bool) → (p && (s && k && h) && (f && d)) ≡ (p && s && k && f && d && h)
+parts-in-order : (p s k h f d : Bool) → (p && (s && k && h) && f && d) ≡ (p && s && k && f && d && h)
 parts-in-order false s k h f d = refl
 parts-in-order true false k h f d = refl
 parts-in-order true true false h f d = refl
@@ -33,25 +33,9 @@ count-one a b d n = go (leb 1 n) refl
     go true q = rw (one q)
     go false q = rw (q, and-false a)
 
--- flags below 8, of which 4 says that a detail is given, and a detail that is 0 where none is
-detail-test : (f lo hi : ℕ) → (eqb (f / 4) 1 || eqb (bitOr (bitOr (f / 4) lo) hi) 0) ≡ (ltb f 8 && (leb 4 f || (eqb lo 0 && eqb hi 0)))
-detail-test f lo hi = rw (or-zero-three (f / 4) lo hi) (go (ltb f 8) refl (leb 4 f) refl)
-  where
-    go : (a : Bool) → ltb f 8 ≡ a → (b : Bool) → leb 4 f ≡ b
-        → (eqb (f / 4) 1 || (eqb (f / 4) 0 && eqb lo 0 && eqb hi 0)) ≡ (ltb f 8 && (leb 4 f || (eqb lo 0 && eqb hi 0)))
-    go true p true q =
-        let x = ltb-true f 8 p in
-        let y = leb-true 4 f q in
-        let e : f / 4 ≡ 1 = omega arith in
-        rw (p, q, e)
-    go true p false q =
-        let y = leb-false 4 f q in
-        let e : f / 4 ≡ 0 = omega arith in
-        rw (p, q, e)
-    go false p b q =
-        let x = ltb-false f 8 p in
-        let e : 2 ≤ f / 4 = omega arith in
-        rw (p, ne-eqb (f / 4) 1 (λ z. omega (arith, z)), ne-eqb (f / 4) 0 (λ z. omega (arith, z)))
+-- a detail that is 0 where none is given
+detail-test : (g : Bool) (lo hi : ℕ) → (g || eqb (bitOr lo hi) 0) ≡ (g || (eqb lo 0 && eqb hi 0))
+detail-test g lo hi = ap (λ (t : Bool). g || t) (or-zero lo hi)
 
 pub joined-event : (c n s k f lo hi : ℕ)
     → (
@@ -61,15 +45,16 @@ pub joined-event : (c n s k f lo hi : ℕ)
     && leb n 9
     && (eqb n 1 || leb c 5)
     && ltb (bitOr (bitOr s k) hi) 8192
-    && (eqb (f / 4) 1 || eqb (bitOr (bitOr (f / 4) lo) hi) 0)
+    && eqb (f / 16 % 16) 0
+    && (eqb (f / 4 % 2) 1 || eqb (bitOr lo hi) 0)
     )
     ≡ eventWordsOk c n s k f lo hi
 unfolding eventWordsOk
 joined-event c n s k f lo hi =
-    ap (λ (t : Bool). t && ltb (bitOr (bitOr s k) hi) 8192 && (eqb (f / 4) 1 || eqb (bitOr (bitOr (f / 4) lo) hi) 0)) (count-one (leb 2 c && leb c 34) (leb n 9) (leb c 5) n)
-    ∙ ap (λ (t : Bool). p && t && (eqb (f / 4) 1 || eqb (bitOr (bitOr (f / 4) lo) hi) 0)) (bits-below s k hi)
-    ∙ ap (λ (t : Bool). p && (ltb s 8192 && ltb k 8192 && ltb hi 8192) && t) (detail-test f lo hi)
-    ∙ parts-in-order p (ltb s 8192) (ltb k 8192) (ltb hi 8192) (ltb f 8) (leb 4 f || (eqb lo 0 && eqb hi 0))
+    ap (λ (t : Bool). t && ltb (bitOr (bitOr s k) hi) 8192 && eqb (f / 16 % 16) 0 && (eqb (f / 4 % 2) 1 || eqb (bitOr lo hi) 0)) (count-one (leb 2 c && leb c 34) (leb n 9) (leb c 5) n)
+    ∙ ap (λ (t : Bool). p && t && eqb (f / 16 % 16) 0 && (eqb (f / 4 % 2) 1 || eqb (bitOr lo hi) 0)) (bits-below s k hi)
+    ∙ ap (λ (t : Bool). p && (ltb s 8192 && ltb k 8192 && ltb hi 8192) && eqb (f / 16 % 16) 0 && t) (detail-test (eqb (f / 4 % 2) 1) lo hi)
+    ∙ parts-in-order p (ltb s 8192) (ltb k 8192) (ltb hi 8192) (eqb (f / 16 % 16) 0) (eqb (f / 4 % 2) 1 || (eqb lo 0 && eqb hi 0))
   where
     p : Bool
     p = leb 2 c && leb c 34 && leb 1 n && leb n 9 && (leb n 1 || leb c 5)

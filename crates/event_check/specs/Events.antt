@@ -1,10 +1,12 @@
--- The tests of a table's events, word by word, as the code makes them. proofs/EventTests shows that they come to `eventInRange`.
-use Prim.Native.Nat.{ℕ, _+_}
+-- The tests of a table's events, word by word, as the code makes them. proofs/EventTests shows that with those of the keysyms
+-- after `@` they come to `eventInRange`.
+use Prim.Native.Nat.{ℕ, _+_, _/_, _%_}
 use mathlib.Core.Bool.{Bool, _&&_, _||_}
 use mathlib.Core.List.{List}
 use lib.Dec.{leb, ltb, eqb}
 use Rattle.words.specs.Words.{wordAt}
 use Rattle.tables.specs.Layout.{codesAt, countsAt, setsAt, clearsAt, flagsAt, lowsAt, highsAt}
+use Rattle.tables.specs.Reading.{isFlag}
 
 unfoldable pub eventWordsOk : (code count set clear flags low high : ℕ) → Bool
 eventWordsOk code count set clear flags low high =
@@ -15,8 +17,8 @@ eventWordsOk code count set clear flags low high =
     && (leb count 1 || leb code 5)
     && ltb set 8192
     && ltb clear 8192
-    && ltb flags 8
-    && (leb 4 flags || (eqb low 0 && eqb high 0))
+    && eqb (flags / 16 % 16) 0
+    && (isFlag 4 flags || (eqb low 0 && eqb high 0))
     && ltb high 8192
 
 unfoldable pub eventOk : List ℕ → ℕ → Bool

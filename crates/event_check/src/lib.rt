@@ -9,19 +9,21 @@ ghost use Rattle.words.specs.Runs.{every, total, lowAt};
 ghost use Rattle.tables.specs.Layout.{countsAt, tableLength};
 ghost use Rattle.event_check.specs.Events.{eventWordsOk, eventOk, fewAt};
 
-// What is only bounded by a power of two, or has to be 0, is joined and tested once. `given` is 1 for flags 4..7, 0 below and
-// more above: where it is not 1, it has to be 0, and so has the detail.
+// What is only bounded by a power of two, or has to be 0, is joined and tested once. The lower byte of flags has four; the
+// upper one has names, any of which may be there.
 fn event_ok(code: u16, count: u16, set: u16, clear: u16, flags: u16, low: u16, high: u16) -> bool
     ensures { λ r. ⌜ r ≡ eventWordsOk code count set clear flags low high ⌝ }
 {
-    let given = flags / 4;
+    let given = flags / 4 % 2;
+    let spare = flags / 16 % 16;
     (2 <= code)
         & (code <= 34)
         & (1 <= count)
         & (count <= 9)
         & ((count == 1) | (code <= 5))
         & ((set | clear | high) < 8192)
-        & ((given == 1) | ((given | low | high) == 0))
+        & (spare == 0)
+        & ((given == 1) | ((low | high) == 0))
 }
 
 // What the loop over events finds: whether all are in range, the sum of the lower bytes of their counts, and whether no count

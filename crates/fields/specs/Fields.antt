@@ -4,7 +4,7 @@ use mathlib.Core.List.{List}
 use Rattle.words.specs.Words.{wordAt}
 use Rattle.tables.specs.Layout.{flagsAt, lowsAt, highsAt}
 
--- colon, clause and whether a detail is asked for, as bits
+-- colon, clause, whether a detail is asked for and `!` beside names, as bits; above them the names
 unfoldable pub flagsIn : List ℕ → ℕ → ℕ
 flagsIn l i = wordAt l (flagsAt + i)
 

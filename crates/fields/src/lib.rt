@@ -3,7 +3,10 @@ use tables::places;
 ghost use mathlib.Core.Path.{_≡_};
 ghost use Prim.Native.Nat.{_≤_, _<_};
 ghost use lib.ListN.{length};
-ghost use Rattle.tables.specs.Reading.{eventEntry, isFlag};
+ghost use mathlib.Core.Bool.{true};
+ghost use Rattle.model.specs.Named.{keptAsWritten};
+ghost use Rattle.tables.specs.Reading.{eventTotal, eventEntry, isFlag};
+ghost use Rattle.tables.specs.Whole.{whole};
 ghost use Rattle.fields.specs.Fields.{flagsIn, valueIn};
 ghost use Rattle.tables.specs.Layout.{tableLength};
 
@@ -52,10 +55,20 @@ pub fn value_at(table: &[u8], i: usize) -> u32
     low + 65536 * high
 }
 
-// Whether a flag is set: 1, 2 or 4.
+// Whether a flag is set: 1, 2, 4 or 8.
 pub fn is_flag(value: u16, flags: u16) -> bool
     requires { ⌜ 0 < value ⌝ }
     ensures { λ r. ⌜ r ≡ isFlag value flags ⌝ }
 {
     flags / value % 2 == 1
+}
+
+// Whether the event keeps `!`, or a name whose bits the modifier map gives. A keysym after `@` has a mark in its upper word.
+pub fn names_at(table: &[u8], i: usize) -> bool
+    requires { ⌜ (whole (now table) ≡ true) × (i < eventTotal (now table)) ⌝ }
+    ensures { λ r. ⌜ r ≡ keptAsWritten (eventEntry (now (table .entry)) i) ⌝ }
+{
+    let flags = words::word_at(table, places::FLAGS + i);
+    let high = words::word_at(table, places::FIRST_HIGHS + i);
+    (flags / 8 % 2 == 1) | ((flags / 256 % 256 != 0) | (high != 0))
 }

@@ -27,14 +27,14 @@ fn other(a: u32, b: u32) -> u32
     if b == 0 { a } else { b }
 }
 
-pub fn sought_of(map: &[u8], x: Event) -> Sought
-    requires { ⌜ (length (mapNumbers (now map)) ≡ 496) × EventRanges x ⌝ }
-    ensures { λ r. ⌜ r ≡ soughtOf (mapNumbers (now (map .entry))) x ⌝ }
+pub fn sought_of(maps: &[u8], x: Event) -> Sought
+    requires { ⌜ (length (mapNumbers (now maps)) ≡ 496) × EventRanges x ⌝ }
+    ensures { λ r. ⌜ r ≡ soughtOf (mapNumbers (now (maps .entry))) x ⌝ }
 {
     let code = x.code as u16;
     let state = x.state;
     if x.code <= 3 {
-        let pair = keyboard::pair_at(map, x.detail);
+        let pair = keyboard::pair_at(maps, x.detail);
         return Sought {
             code,
             state,

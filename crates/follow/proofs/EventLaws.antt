@@ -1,14 +1,15 @@
 -- One event against one event of a table, in the order of the code's tests.
 use Prim.Native.Nat.{ℕ, _≤_, _<_}
-use borrow.Author.Tests.{le-leb, lt-leb, eq-eqb, ne-eqb}
-use mathlib.Core.Path.{_≡_, refl, sym, ap, _∙_}
-use mathlib.Core.Bool.{Bool, true, false, _&&_}
+use borrow.Author.Tests.{le-leb, lt-leb, eq-eqb, ne-eqb, eqb-true, not-false}
+use mathlib.Core.Path.{_≡_, refl, sym, ap, ap₂, _∙_}
+use mathlib.Core.Bool.{Bool, true, false, not, _&&_, _||_, true≢false}
 use mathlib.Core.List.{List}
 use mathlib.Core.Option.{Option}
 use lib.Dec.{eqb}
 use Rattle.model.specs.Modifiers.{stateMeets}
 use Rattle.model.specs.Setting.{Setting, firstKeysym, secondKeysym}
-use Rattle.model.specs.Asked.{asked, testMet}
+use Rattle.model.specs.Named.{noKeysyms, keepsNames, keptAsWritten}
+use Rattle.model.specs.Asked.{Test, asked, testMet}
 use Rattle.model.specs.Counts.{Element, quick}
 use Rattle.model.specs.Matching.{detailMet, meets, inTime, fits}
 use Rattle.model.specs.declared.events.Event.{Event}
@@ -18,7 +19,11 @@ use Rattle.keyboard.specs.Pairs.{pairAsked}
 use Rattle.keyboard.proofs.Pairs.{key-matches}
 use Rattle.records.specs.Ranges.{EventRanges}
 use Rattle.tables.specs.Reading.{isFlag, eventFromWords, eventEntry}
-use Rattle.follow.specs.Follow.{eventMeets, detailAsked, elementOf, fitsAfter}
+use Rattle.tables.specs.Fitting.{comesAfter, keysymsInRange}
+use Rattle.resolving.specs.declared.Resolved.{Resolved}
+use Rattle.resolving.specs.Gathering.{resolvedTest}
+use Rattle.resolving.proofs.Asking.{asked-plain}
+use Rattle.follow.specs.Follow.{eventMeets, detailAsked, askedMet, bitsMeet, elementOf, fitsAfter}
 use Rattle.fields.specs.Fields.{flagsIn, valueIn}
 
 and-true : (a : Bool) → a && true ≡ a
@@ -28,6 +33,30 @@ and-true false = refl
 and-assoc : (a b c : Bool) → (a && b) && c ≡ a && (b && c)
 and-assoc true b c = refl
 and-assoc false b c = refl
+
+-- ---- Events that keep no `!` and no name
+
+or-no-left : (a b : Bool) → a || b ≡ false → a ≡ false
+or-no-left true b q = q
+or-no-left false b q = refl
+
+or-no-right : (a b : Bool) → a || b ≡ false → b ≡ false
+or-no-right true b q = absurd (true≢false q)
+or-no-right false b q = q
+
+plain-bang : (e : KeptEvent) → keptAsWritten e ≡ false → e .bang ≡ false
+plain-bang e p = or-no-left (e .bang) (keepsNames e) p
+
+plain-names : (e : KeptEvent) → keptAsWritten e ≡ false → e .names ≡ 0
+plain-names e p =
+    eqb-true (e .names) 0
+    (not-false _ (or-no-left (not (eqb (e .names) 0)) (not (eqb (e .keysyms .first) 0)) (or-no-right (e .bang) (keepsNames e) p)))
+
+none-after : (s next : ℕ) → comesAfter s next ≡ true → s ≡ 0 → next ≡ 0
+none-after s next e z = ?
+
+plain-keysyms : (e : KeptEvent) → keysymsInRange (e .keysyms) ≡ true → keptAsWritten e ≡ false → e .keysyms ≡ noKeysyms
+plain-keysyms e k p = ?
 
 -- ---- The detail
 
@@ -42,39 +71,62 @@ pub other-detail : (map : List ℕ) (set clear : ℕ) (colon : Bool) (value : �
 unfolding detailAsked
 other-detail map set clear colon value x l = rw (lt-leb (x .code) 3 l)
 
-asked-met : (setting : Setting) (e : KeptEvent) (value : ℕ) (x : Event) → EventRanges x
-    → detailAsked (setting .keyboard) (e .set) (e .clear) (e .colon) value x ≡ detailMet setting e (Detail.Value value) x
-unfolding detailAsked asked
-asked-met setting e value x r =
+-- under a setting it is what the test of the event asks
+detail-asked : (setting : Setting) (e : KeptEvent) (x : Event) → EventRanges x → (d : Detail)
+    → detailMet setting e d x ≡ askedMet (setting .keyboard) (asked setting e .set) (asked setting e .clear) e d x
+unfolding detailAsked
+detail-asked setting e x r Detail.Unspecified = refl
+detail-asked setting e x r (Detail.Value value) =
     rw (le-leb 2 (x .code) (r .code-least), key-matches setting e (x .detail) (x .state) value)
 
 -- ---- The event
 
-module _ (setting : Setting) (l : List ℕ) (i : ℕ) (x : Event) (r : EventRanges x) where
+module _ (map : List ℕ) (set clear : ℕ) (l : List ℕ) (i : ℕ) (x : Event) where
   -- the state does not meet the test
-  pub meets-not : stateMeets (eventEntry l i .set) (eventEntry l i .clear) (isFlag 2 (flagsIn l i)) (x .state) ≡ false
-      → eventMeets setting (eventEntry l i) x ≡ false
-  unfolding eventMeets testMet asked eventEntry eventFromWords flagsIn
+  pub meets-not : stateMeets set clear (isFlag 2 (flagsIn l i)) (x .state) ≡ false → bitsMeet map set clear (eventEntry l i) x ≡ false
+  unfolding bitsMeet eventEntry eventFromWords flagsIn
   meets-not q = rw q
 
   -- no detail is asked for
-  pub meets-any : stateMeets (eventEntry l i .set) (eventEntry l i .clear) (isFlag 2 (flagsIn l i)) (x .state) ≡ true
-      → isFlag 4 (flagsIn l i) ≡ false → eventMeets setting (eventEntry l i) x ≡ true
-  unfolding eventMeets testMet asked eventEntry eventFromWords flagsIn
+  pub meets-any : stateMeets set clear (isFlag 2 (flagsIn l i)) (x .state) ≡ true → isFlag 4 (flagsIn l i) ≡ false
+      → bitsMeet map set clear (eventEntry l i) x ≡ true
+  unfolding bitsMeet eventEntry eventFromWords flagsIn
   meets-any q g = rw (q, g)
 
-  given-detail : isFlag 4 (flagsIn l i) ≡ true → eventEntry l i .detail ≡ Detail.Value (valueIn l i)
-  unfolding eventEntry eventFromWords flagsIn valueIn
-  given-detail g = rw g
+  pub meets-detail : stateMeets set clear (isFlag 2 (flagsIn l i)) (x .state) ≡ true → isFlag 4 (flagsIn l i) ≡ true
+      → detailAsked map set clear (isFlag 1 (flagsIn l i)) (valueIn l i) x ≡ bitsMeet map set clear (eventEntry l i) x
+  unfolding bitsMeet eventEntry eventFromWords flagsIn valueIn
+  meets-detail q g = rw (q, g)
 
-  pub meets-detail : stateMeets (eventEntry l i .set) (eventEntry l i .clear) (isFlag 2 (flagsIn l i)) (x .state) ≡ true
-      → isFlag 4 (flagsIn l i) ≡ true
-      → detailAsked (setting .keyboard) (eventEntry l i .set) (eventEntry l i .clear) (isFlag 1 (flagsIn l i)) (valueIn l i) x ≡ eventMeets setting (eventEntry l i) x
-  unfolding eventMeets testMet asked eventEntry eventFromWords flagsIn
-  meets-detail q g =
-      asked-met setting (eventEntry l i) (valueIn l i) x r
-      ∙ sym (ap (λ (d : Detail). detailMet setting (eventEntry l i) d x) (given-detail g))
-      ∙ sym (ap (λ (b : Bool). b && detailMet setting (eventEntry l i) (eventEntry l i .detail) x) q)
+clause-kept : (setting : Setting) (e : KeptEvent) → asked setting e .clause ≡ e .clause
+unfolding asked
+clause-kept setting e = refl
+
+module _ (setting : Setting) (e : KeptEvent) (x : Event) (r : EventRanges x) where
+  -- the event's test, by the bits that it asks under the setting
+  meets-asked : eventMeets setting e x
+      ≡ not (asked setting e .dead) && bitsMeet (setting .keyboard) (asked setting e .set) (asked setting e .clear) e x
+  unfolding eventMeets testMet bitsMeet
+  meets-asked =
+      ap₂ (λ (c d : Bool). (not (asked setting e .dead) && stateMeets (asked setting e .set) (asked setting e .clear) c (x .state)) && d)
+      (clause-kept setting e) (detail-asked setting e x r (e .detail))
+      ∙ and-assoc (not (asked setting e .dead))
+      (stateMeets (asked setting e .set) (asked setting e .clear) (e .clause) (x .state))
+      (askedMet (setting .keyboard) (asked setting e .set) (asked setting e .clear) e (e .detail) x)
+
+  -- by what its names come to
+  pub meets-resolved : (by : Resolved) → by ≡ resolvedTest (asked setting e)
+      → eventMeets setting e x ≡ not (by .dead) && bitsMeet (setting .keyboard) (by .set) (by .clear) e x
+  meets-resolved by q =
+      meets-asked ∙ ap (λ (b : Resolved). not (b .dead) && bitsMeet (setting .keyboard) (b .set) (b .clear) e x) (sym q)
+
+  -- it keeps no `!` and no name
+  pub meets-plain : e .set < 8192 → e .clear < 8192 → keysymsInRange (e .keysyms) ≡ true → keptAsWritten e ≡ false
+      → eventMeets setting e x ≡ bitsMeet (setting .keyboard) (e .set) (e .clear) e x
+  meets-plain hs hc k p =
+      meets-asked
+      ∙ ap (λ (t : Test). not (t .dead) && bitsMeet (setting .keyboard) (t .set) (t .clear) e x)
+      (asked-plain setting e hs hc (plain-bang e p) (plain-names e p) (plain-keysyms e k p))
 
 -- ---- The element
 

@@ -8,13 +8,16 @@ use mathlib.Core.Option.{Option, some}
 use lib.Dec.{eqb, leb}
 use lib.ListN.{length, getD}
 use Rattle.model.specs.Setting.{Setting, firstKeysym, secondKeysym}
+use Rattle.model.specs.Modifiers.{stateMeets}
 use Rattle.model.specs.Asked.{asked, testMet}
 use Rattle.model.specs.Counts.{Element, element, quick}
 use Rattle.model.specs.Matching.{detailMet, fits}
 use Rattle.model.specs.declared.events.Event.{Event}
+use Rattle.model.specs.declared.events.Detail.{Detail}
 use Rattle.model.specs.declared.events.KeptEvent.{KeptEvent}
 use Rattle.counts.specs.Elements.{elementCount, elementCode, isTimed}
 use Rattle.keyboard.specs.Pairs.{pairAsked}
+use Rattle.resolving.specs.Gathering.{MapsReady}
 use Rattle.tables.specs.Reading.{eventEntry}
 use Rattle.tables.specs.Whole.{whole}
 use Rattle.records.specs.Ranges.{EventRanges}
@@ -33,6 +36,15 @@ detailAsked map set clear colon value x =
     cond (leb (x .code) 3)
     (pairAsked set clear colon (firstKeysym map (x .detail)) (secondKeysym map (x .detail)) (x .state) value)
     (eqb (x .detail) value)
+
+-- the same of any detail
+abbrev pub askedMet : List ℕ → (set clear : ℕ) → KeptEvent → Detail → Event → Bool
+askedMet map set clear e Detail.Unspecified x = true
+askedMet map set clear e (Detail.Value value) x = detailAsked map set clear (e .colon) value x
+
+-- an event's clause and detail, and these bits in place of its own
+unfoldable pub bitsMeet : List ℕ → (set clear : ℕ) → KeptEvent → Event → Bool
+bitsMeet map set clear e x = stateMeets set clear (e .clause) (x .state) && askedMet map set clear e (e .detail) x
 
 -- element k of an event
 unfoldable pub elementOf : KeptEvent → ℕ → Element
@@ -57,11 +69,11 @@ walked setting twoBefore oneBefore (el ∷ els) (x ∷ xs) =
 unfoldable pub sizeIn : List ℕ → ℕ → ℕ
 sizeIn l i = elementCount (eventEntry l i .code) (eventEntry l i .count)
 
--- what the walk may rely on: a whole table, a keyboard map of the right length, and events as they are read, in the slots
--- that these bytes are
-pub record WalkReady (l map bytes : List ℕ) (to : ℕ) : Type 0 where
+-- what the walk may rely on: a whole table, maps that are not refused, and events as they are read, in the slots that these
+-- bytes are
+pub record WalkReady (l maps bytes : List ℕ) (to : ℕ) : Type 0 where
   pub isWhole : whole l ≡ true
-  pub mapped : length map ≡ 496
+  pub mapped : MapsReady maps
   pub long : length bytes ≡ 200
   pub room : to ≤ 25
   pub ranges : (j : ℕ) → j < to → EventRanges (getD (slotsOf bytes) j zeroEvent)

@@ -8,8 +8,8 @@ use Rattle.words.specs.Words.{wordAt}
 use Rattle.words.specs.Runs.{every}
 use Rattle.words.proofs.Bools.{chain-parts}
 use Rattle.tables.specs.Layout.{forEach, eventFields, callFields, parameterFields, capacities}
-use Rattle.tables.specs.Layout.{productionEventsAt, productionCallsAt, codesAt, countsAt, setsAt, clearsAt, flagsAt, lowsAt, highsAt, marksAt, nameStartsAt, nameLengthsAt, callParametersAt, parameterStartsAt, parameterLengthsAt}
-use Rattle.header_check.specs.Unused.{restZero, productionsRest, testsRest, detailsRest, callsRest, parametersRest, unusedOk}
+use Rattle.tables.specs.Layout.{productionEventsAt, productionCallsAt, codesAt, countsAt, setsAt, clearsAt, flagsAt, lowsAt, highsAt, firstLowsAt, firstHighsAt, secondLowsAt, secondHighsAt, thirdLowsAt, thirdHighsAt, fourthLowsAt, fourthHighsAt, marksAt, nameStartsAt, nameLengthsAt, callParametersAt, parameterStartsAt, parameterLengthsAt}
+use Rattle.header_check.specs.Unused.{restZero, productionsRest, testsRest, detailsRest, firstTwoRest, lastTwoRest, callsRest, parametersRest, unusedOk}
 use Rattle.header_check.proofs.HeaderFacts.{HeaderFacts}
 
 -- sections of these capacities, from word s on: n words of each are used, and the others are 0
@@ -28,13 +28,16 @@ header-used : (l : List ℕ) → restZero l 0 8 8 ≡ true
 unfolding restZero every
 header-used l = refl
 
-pub rest-facts : (l : List ℕ) → HeaderFacts l → unusedOk l ≡ true → Rests l capacities (used l) 0
-unfolding unusedOk productionsRest testsRest detailsRest callsRest parametersRest
-rest-facts l h e =
+pub rest-facts : (l : List ℕ) → HeaderFacts l → unusedOk l ≡ true → firstTwoRest l (wordAt l 5) ≡ true → lastTwoRest l (wordAt l 5) ≡ true
+    → Rests l capacities (used l) 0
+unfolding unusedOk productionsRest testsRest detailsRest firstTwoRest lastTwoRest callsRest parametersRest
+rest-facts l h e f g =
     let r = chain-parts (productionsRest l (wordAt l 4)) (testsRest l (wordAt l 5) ∷ detailsRest l (wordAt l 5) ∷ callsRest l (wordAt l 6) ∷ parametersRest l (wordAt l 7) ∷ []) e in
     let p = chain-parts (restZero l productionEventsAt 64 (wordAt l 4)) (restZero l productionCallsAt 64 (wordAt l 4) ∷ []) (r .0) in
     let t = chain-parts (restZero l codesAt 256 (wordAt l 5)) (restZero l countsAt 256 (wordAt l 5) ∷ restZero l setsAt 256 (wordAt l 5) ∷ restZero l clearsAt 256 (wordAt l 5) ∷ []) (r .1 .0) in
     let d = chain-parts (restZero l flagsAt 256 (wordAt l 5)) (restZero l lowsAt 256 (wordAt l 5) ∷ restZero l highsAt 256 (wordAt l 5) ∷ []) (r .1 .1 .0) in
+    let x = chain-parts (restZero l firstLowsAt 256 (wordAt l 5)) (restZero l firstHighsAt 256 (wordAt l 5) ∷ restZero l secondLowsAt 256 (wordAt l 5) ∷ restZero l secondHighsAt 256 (wordAt l 5) ∷ []) f in
+    let y = chain-parts (restZero l thirdLowsAt 256 (wordAt l 5)) (restZero l thirdHighsAt 256 (wordAt l 5) ∷ restZero l fourthLowsAt 256 (wordAt l 5) ∷ restZero l fourthHighsAt 256 (wordAt l 5) ∷ []) g in
     let c = chain-parts (restZero l marksAt 128 (wordAt l 6)) (restZero l nameStartsAt 128 (wordAt l 6) ∷ restZero l nameLengthsAt 128 (wordAt l 6) ∷ restZero l callParametersAt 128 (wordAt l 6) ∷ []) (r .1 .1 .1 .0) in
     let s = chain-parts (restZero l parameterStartsAt 256 (wordAt l 7)) (restZero l parameterLengthsAt 256 (wordAt l 7) ∷ []) (r .1 .1 .1 .1 .0) in
     let all : 8 ≤ 8 = omega arith in
@@ -48,9 +51,17 @@ rest-facts l h e =
     (more (h .events) (d .0)
     (more (h .events) (d .1 .0)
     (more (h .events) (d .1 .1 .0)
+    (more (h .events) (x .0)
+    (more (h .events) (x .1 .0)
+    (more (h .events) (x .1 .1 .0)
+    (more (h .events) (x .1 .1 .1 .0)
+    (more (h .events) (y .0)
+    (more (h .events) (y .1 .0)
+    (more (h .events) (y .1 .1 .0)
+    (more (h .events) (y .1 .1 .1 .0)
     (more (h .calls) (c .0)
     (more (h .calls) (c .1 .0)
     (more (h .calls) (c .1 .1 .0)
     (more (h .calls) (c .1 .1 .1 .0)
     (more (h .parameters) (s .0)
-    (more (h .parameters) (s .1 .0) none)))))))))))))))
+    (more (h .parameters) (s .1 .0) none)))))))))))))))))))))))

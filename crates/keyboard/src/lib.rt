@@ -27,15 +27,15 @@ pub fn number_from(l: &[u8], at: usize) -> u32
     wide(l[at]) + 256 * wide(l[at + 1]) + 65536 * wide(l[at + 2]) + 16777216 * wide(l[at + 3])
 }
 
-// Two numbers of the map for each keycode from 8 on.
-pub fn pair_at(map: &[u8], keycode: u8) -> Pair
-    requires { ⌜ (length (mapNumbers (now map)) ≡ 496) × (8 ≤ keycode) ⌝ }
-    ensures { λ r. ⌜ r ≡ pairAt (mapNumbers (now (map .entry))) keycode ⌝ }
+// Two numbers of the keyboard map, with which lent maps begin, for each keycode from 8 on.
+pub fn pair_at(maps: &[u8], keycode: u8) -> Pair
+    requires { ⌜ (length (mapNumbers (now maps)) ≡ 496) × (8 ≤ keycode) ⌝ }
+    ensures { λ r. ⌜ r ≡ pairAt (mapNumbers (now (maps .entry))) keycode ⌝ }
 {
     let at = 8 * (keycode as usize - 8);
     Pair {
-        first: number_from(map, at),
-        second: number_from(map, at + 4),
+        first: number_from(maps, at),
+        second: number_from(maps, at + 4),
     }
 }
 

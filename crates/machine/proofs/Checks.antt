@@ -8,6 +8,7 @@ use Rattle.model.specs.Numbers.{MatchChecks, matchOrder, stateNotWhole}
 
 pub record NoneApplies (c : MatchChecks) : Type 0 where
   pub short : c .short ≡ false
+  pub modifiersBad : c .modifiersBad ≡ false
   pub tableBroken : c .tableBroken ≡ false
   pub stateBroken : c .stateBroken ≡ false
   pub recordBad : c .recordBad ≡ false
@@ -20,11 +21,12 @@ passed false n m f e = (refl, e)
 pub none-applies : (c : MatchChecks) → eqb (matchOrder c) 0 ≡ true → NoneApplies c
 none-applies c e =
     let a = passed (c .short) 1 _ refl e in
-    let b = passed (c .tableBroken) 12 _ refl (a .1) in
+    let m = passed (c .modifiersBad) 18 _ refl (a .1) in
+    let b = passed (c .tableBroken) 12 _ refl (m .1) in
     let d = passed (c .stateBroken) 14 _ refl (b .1) in
     let f = passed (c .recordBad) 13 _ refl (d .1) in
     let g = passed (c .full) 15 _ refl (f .1) in
-    record { short = a .0; tableBroken = b .0; stateBroken = d .0; recordBad = f .0; full = g .0 }
+    record { short = a .0; modifiersBad = m .0; tableBroken = b .0; stateBroken = d .0; recordBad = f .0; full = g .0 }
 
 below : (bound : ℕ) (b : Bool) (n m : ℕ) → n < bound → m < bound → cond b n m < bound
 below bound true n m h k = h
@@ -34,9 +36,10 @@ below bound false n m h k = k
 pub order-small : (c : MatchChecks) → matchOrder c < 256
 order-small c =
     below 256 (c .short) 1 _ (omega arith)
+    (below 256 (c .modifiersBad) 18 _ (omega arith)
     (below 256 (c .tableBroken) 12 _ (omega arith)
     (below 256 (c .stateBroken) 14 _ (omega arith)
-    (below 256 (c .recordBad) 13 _ (omega arith) (below 256 (c .full) 15 0 (omega arith) (omega arith)))))
+    (below 256 (c .recordBad) 13 _ (omega arith) (below 256 (c .full) 15 0 (omega arith) (omega arith))))))
 
 not-by : (b : Bool) (n m : ℕ) → (n ≡ stateNotWhole → ⊥) → (m ≡ stateNotWhole → ⊥) → cond b n m ≡ stateNotWhole → ⊥
 not-by true n m f g = f
@@ -47,5 +50,6 @@ pub order-not : (c : MatchChecks) → c .stateBroken ≡ false → matchOrder c 
 order-not c e =
     rw e
     (not-by (c .short) 1 _ (λ z. omega arith)
+    (not-by (c .modifiersBad) 18 _ (λ z. omega arith)
     (not-by (c .tableBroken) 12 _ (λ z. omega arith)
-    (not-by (c .recordBad) 13 _ (λ z. omega arith) (not-by (c .full) 15 0 (λ z. omega arith) (λ z. omega arith)))))
+    (not-by (c .recordBad) 13 _ (λ z. omega arith) (not-by (c .full) 15 0 (λ z. omega arith) (λ z. omega arith))))))

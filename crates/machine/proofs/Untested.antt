@@ -38,15 +38,15 @@ module _ (setting : Setting) (e : KeptEvent) (s r : ℕ)
 
   by-care : (k : ℕ) → caresFor test k ≡ true → bit k s ≡ bit k r
   unfolding eventTests
-  by-care k h = agree k (or-left _ _ (or-left _ _ h))
+  by-care k h = agree k (or-left _ _ (or-left _ _ (or-left _ _ h)))
 
   by-clause : test .clause ≡ true → (k : ℕ) → inRange firstButtonBit k lastButtonBit ≡ true → bit k s ≡ bit k r
   unfolding eventTests
-  by-clause c k h = agree k (or-left _ _ (or-right (caresFor test k) _ (ap₂ _&&_ c h)))
+  by-clause c k h = agree k (or-left _ _ (or-left _ _ (or-right (caresFor test k) _ (ap₂ _&&_ c h))))
 
   by-colon : e .colon ≡ true → asksDetail (e .detail) ≡ true → (k : ℕ) → isShiftOrLock k ≡ true → bit k s ≡ bit k r
   unfolding eventTests
-  by-colon c d k h = agree k (or-right (caresFor test k || testsByClause test k) _ (ap₂ _&&_ (ap₂ _&&_ c d) h))
+  by-colon c d k h = agree k (or-left _ _ (or-right (caresFor test k || testsByClause test k) _ (ap₂ _&&_ (ap₂ _&&_ c d) h)))
 
   bits-same : bitsMet (test .set) (test .clear) s ≡ bitsMet (test .set) (test .clear) r
   bits-same =

@@ -45,14 +45,14 @@ fn first_of(short: bool, table_broken: bool, state_broken: bool) -> u8
     0
 }
 
-fn too_short(table: &[u8], map: &[u8]) -> bool
-    ensures { λ r. ⌜ r ≡ tooShort (now (table .entry)) (mapNumbers (now (map .entry))) ⌝ }
+fn too_short(table: &[u8], maps: &[u8]) -> bool
+    ensures { λ r. ⌜ r ≡ tooShort (now (table .entry)) (mapNumbers (now (maps .entry))) ⌝ }
 {
     (table.len() < tables::TABLE_LENGTH) | (map.len() != MAP_BYTES)
 }
 
-fn refusal(table: &[u8], map: &[u8], state: State) -> u8
-    ensures { λ r. ⌜ r ≡ matchOrder (earlyChecks (tooShort (now (table .entry)) (mapNumbers (now (map .entry)))) (not (whole (now (table .entry)))) (not (wholeState state))) ⌝ }
+fn refusal(table: &[u8], maps: &[u8], state: State) -> u8
+    ensures { λ r. ⌜ r ≡ matchOrder (earlyChecks (tooShort (now (table .entry)) (mapNumbers (now (maps .entry)))) (not (whole (now (table .entry)))) (not (wholeState state))) ⌝ }
 {
     first_of(
         too_short(table, map),
@@ -85,17 +85,17 @@ fn number_of(read: RecordRead) -> u8
 // 24 events reads as a prefix of a whole table.
 pub fn match_event(
     table: &[u8],
-    map: &[u8],
+    maps: &[u8],
     limit: u32,
     state: State,
     record: &[u8],
     order: u8,
 ) -> Answer
-    ensures answer { λ r. ⌜ r ≡ matchAnswer (now (table .entry)) (lentSetting (now (map .entry)) limit) state (now («record» .entry)) order ⌝ }
-    ensures number { λ r. ⌜ matchedNumber (r .matched) ≡ matchNumber (now (table .entry)) (lentSetting (now (map .entry)) limit) state (matchCall (now («record» .entry)) order) ⌝ }
-    ensures selection { λ r. ⌜ matchedSelection (r .matched) ≡ matchSelection (now (table .entry)) (lentSetting (now (map .entry)) limit) state (matchCall (now («record» .entry)) order) ⌝ }
+    ensures answer { λ r. ⌜ r ≡ matchAnswer (now (table .entry)) (lentSetting (now (maps .entry)) limit) state (now («record» .entry)) order ⌝ }
+    ensures number { λ r. ⌜ matchedNumber (r .matched) ≡ matchNumber (now (table .entry)) (lentSetting (now (maps .entry)) limit) state (matchCall (now («record» .entry)) order) ⌝ }
+    ensures selection { λ r. ⌜ matchedSelection (r .matched) ≡ matchSelection (now (table .entry)) (lentSetting (now (maps .entry)) limit) state (matchCall (now («record» .entry)) order) ⌝ }
 {
-    let number = refusal(table, map, state);
+    let number = refusal(table, maps, state);
     if number != 0 {
         return refused(number, state);
     }
@@ -109,5 +109,5 @@ pub fn match_event(
             state,
         };
     }
-    moves::heard(table, map, limit, state, x)
+    moves::heard(table, maps, limit, state, x)
 }

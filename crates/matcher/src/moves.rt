@@ -79,16 +79,16 @@ fn used_up(selected: usize) -> usize
 // The context does not go on: it moves on to a new start, or closes.
 fn restart(
     table: &[u8],
-    map: &[u8],
+    maps: &[u8],
     limit: u32,
     events: &[u8],
     selected: usize,
     to: usize,
 ) -> Answer
-    requires { ⌜ WalkReady (now table) (mapNumbers (now map)) (now events) to × ((1 ≤ to) × (selected ≤ to)) ⌝ }
-    ensures { λ r. ⌜ r ≡ restarted (decode (now (table .entry))) (lentSetting (now (map .entry)) limit) (take to (slotsOf (now (events .entry)))) selected ⌝ }
+    requires { ⌜ WalkReady (now table) (now maps) (now events) to × ((1 ≤ to) × (selected ≤ to)) ⌝ }
+    ensures { λ r. ⌜ r ≡ restarted (decode (now (table .entry))) (lentSetting (now (maps .entry)) limit) (take to (slotsOf (now (events .entry)))) selected ⌝ }
 {
-    let start = walk::first_start(table, map, limit, events, used_up(selected), to);
+    let start = walk::first_start(table, maps, limit, events, used_up(selected), to);
     let at = start.at;
     let found = start.found;
     let slots = shifted(events, at, to);
@@ -96,17 +96,17 @@ fn restart(
 }
 
 // An event that is heard.
-pub fn heard(table: &[u8], map: &[u8], limit: u32, state: State, x: Event) -> Answer
-    requires { ⌜ ((whole (now table) ≡ true) × (length (mapNumbers (now map)) ≡ 496)) × ((wholeState state ≡ true) × EventRanges x) ⌝ }
-    ensures { λ r. ⌜ r ≡ stepAnswer (hear (decode (now (table .entry))) (lentSetting (now (map .entry)) limit) (keptOf state) x) ⌝ }
+pub fn heard(table: &[u8], maps: &[u8], limit: u32, state: State, x: Event) -> Answer
+    requires { ⌜ ((whole (now table) ≡ true) × (length (mapNumbers (now maps)) ≡ 496)) × ((wholeState state ≡ true) × EventRanges x) ⌝ }
+    ensures { λ r. ⌜ r ≡ stepAnswer (hear (decode (now (table .entry))) (lentSetting (now (maps .entry)) limit) (keptOf state) x) ⌝ }
 {
     let kept = state.kept;
     let selected = state.selected;
     let mut events = state.events;
     slots::put_event(&mut events, kept, x);
     let to = kept + 1;
-    match walk::pass(table, map, limit, &events, 0, to) {
-        Passed::No => restart(table, map, limit, &events, selected, to),
+    match walk::pass(table, maps, limit, &events, 0, to) {
+        Passed::No => restart(table, maps, limit, &events, selected, to),
         Passed::Prefix => answered(Passed::Prefix, to, selected, events),
         Passed::Chosen(p) => answered(Passed::Chosen(p), to, selected, events),
     }

@@ -10,13 +10,14 @@ use lib.ListN.{length}
 use borrow.Author.Tests.{leb-true, ltb-false, eqb-true}
 use Rattle.words.specs.Words.{wordAt}
 use Rattle.words.specs.Runs.{total, every}
-use Rattle.words.proofs.Bools.{and-left, and-right, chain-parts}
+use Rattle.words.proofs.Bools.{chain-parts}
 use Rattle.words.proofs.RunLaws.{every-at, total-part}
 use Rattle.tables.specs.Layout.{capacities, productionEventsAt, productionCallsAt, callParametersAt, tableLength}
 use Rattle.header_check.specs.Header.{headerOk}
 use Rattle.table_check.specs.Checks.{sumsOk, entriesOk, checks}
-use Rattle.header_check.specs.Unused.{unusedOk}
+use Rattle.header_check.specs.Unused.{firstTwoRest, lastTwoRest, unusedOk}
 use Rattle.event_check.specs.Events.{eventOk}
+use Rattle.keysym_check.specs.Slots.{keysymsOk, slotsOk}
 use Rattle.span_check.specs.Spans.{callOk, parametersOk}
 use Rattle.sequence_check.specs.Sequences.{sizeAt, productionOk}
 use Rattle.header_check.proofs.HeaderFacts.{HeaderFacts, header-facts}
@@ -68,24 +69,28 @@ pub record CheckFacts (l : List ℕ) : Type 0 where
   pub sums : SumFacts l
   pub rests : Rests l capacities (used l) 0
   pub events : (i : ℕ) → i < wordAt l 5 → eventOk l i ≡ true
+  pub keysyms : (i : ℕ) → i < wordAt l 5 → keysymsOk l i ≡ true
   pub calls : (i : ℕ) → i < wordAt l 6 → CallWordFacts l i
   pub parameters : (i : ℕ) → i < wordAt l 6 → parametersOk l i ≡ true
   pub productions : (i : ℕ) → i < wordAt l 4 → ProductionWordFacts l i
   pub sizes : total (sizeAt l) 0 (wordAt l 5) ≤ 256
 
 pub check-facts : (l : List ℕ) → checks l ≡ true → CheckFacts l
-unfolding checks entriesOk
+unfolding checks entriesOk slotsOk
 check-facts l e =
-    let a = cond-no (ltb (length l) tableLength) (cond (headerOk l) (cond (sumsOk l) (unusedOk l && entriesOk l) false) false) e in
-    let h = cond-yes (headerOk l) (cond (sumsOk l) (unusedOk l && entriesOk l) false) (a .1) in
-    let s = cond-yes (sumsOk l) (unusedOk l && entriesOk l) (h .1) in
-    let r = chain-parts (every (eventOk l) 0 (wordAt l 5)) (every (callOk l) 0 (wordAt l 6) ∷ every (parametersOk l) 0 (wordAt l 6) ∷ every (productionOk l) 0 (wordAt l 4) ∷ leb (total (sizeAt l) 0 (wordAt l 5)) 256 ∷ []) (and-right (unusedOk l) (entriesOk l) (s .1)) in
+    let a = cond-no (ltb (length l) tableLength) (cond (headerOk l) (cond (sumsOk l) (unusedOk l && slotsOk l (wordAt l 5) && entriesOk l) false) false) e in
+    let h = cond-yes (headerOk l) (cond (sumsOk l) (unusedOk l && slotsOk l (wordAt l 5) && entriesOk l) false) (a .1) in
+    let s = cond-yes (sumsOk l) (unusedOk l && slotsOk l (wordAt l 5) && entriesOk l) (h .1) in
+    let u = chain-parts (unusedOk l) (slotsOk l (wordAt l 5) ∷ entriesOk l ∷ []) (s .1) in
+    let k = chain-parts (every (keysymsOk l) 0 (wordAt l 5)) (firstTwoRest l (wordAt l 5) ∷ lastTwoRest l (wordAt l 5) ∷ []) (u .1 .0) in
+    let r = chain-parts (every (eventOk l) 0 (wordAt l 5)) (every (callOk l) 0 (wordAt l 6) ∷ every (parametersOk l) 0 (wordAt l 6) ∷ every (productionOk l) 0 (wordAt l 4) ∷ leb (total (sizeAt l) 0 (wordAt l 5)) 256 ∷ []) (u .1 .1 .0) in
     record {
       long = ltb-false (length l) tableLength (a .0);
       header = header-facts l (h .0);
       sums = sum-facts l (s .0);
-      rests = rest-facts l (header-facts l (h .0)) (and-left (unusedOk l) (entriesOk l) (s .1));
+      rests = rest-facts l (header-facts l (h .0)) (u .0) (k .1 .0) (k .1 .1 .0);
       events = λ i q. rw zero-add at (every-at (eventOk l) 0 (wordAt l 5) i (r .0) q);
+      keysyms = λ i q. rw zero-add at (every-at (keysymsOk l) 0 (wordAt l 5) i (k .0) q);
       calls = λ i q. call-word-facts l i (rw zero-add at (every-at (callOk l) 0 (wordAt l 6) i (r .1 .0) q));
       parameters = λ i q. rw zero-add at (every-at (parametersOk l) 0 (wordAt l 6) i (r .1 .1 .0) q);
       productions = λ i q. production-word-facts l i (rw zero-add at (every-at (productionOk l) 0 (wordAt l 4) i (r .1 .1 .1 .0) q));

@@ -1,5 +1,5 @@
 -- The bytes of a table that fits pass the checks.
-use Prim.Native.Nat.{ℕ, _+_, _-_, _≤_, _<_}
+use Prim.Native.Nat.{ℕ, _+_, _-_, _%_, _/_, _≤_, _<_}
 use native.Mathlib.Omega.{arith}
 use native.Mathlib.Nat.{zero-add, add-assoc}
 use mathlib.Core.Path.{_≡_, refl, sym, ap, _∙_}
@@ -20,15 +20,17 @@ use Rattle.model.specs.declared.scan.Span.{Span}
 use Rattle.model.specs.declared.events.KeptEvent.{KeptEvent}
 use Rattle.model.specs.declared.events.Directive.{Directive}
 use Rattle.tables.specs.Layout.{flag, flagsWord, lowWord, highWord, markWord, directiveWord, allEvents, allCalls, allParameters, encode, tableLength}
-use Rattle.tables.specs.Layout.{productionEventsAt, productionCallsAt, codesAt, countsAt, setsAt, clearsAt, flagsAt, lowsAt, highsAt, marksAt, nameStartsAt, nameLengthsAt, callParametersAt, parameterStartsAt, parameterLengthsAt}
+use Rattle.tables.specs.Layout.{productionEventsAt, productionCallsAt, codesAt, countsAt, setsAt, clearsAt, flagsAt, lowsAt, highsAt, firstLowsAt, firstHighsAt, secondLowsAt, secondHighsAt, thirdLowsAt, thirdHighsAt, fourthLowsAt, fourthHighsAt, marksAt, nameStartsAt, nameLengthsAt, callParametersAt, parameterStartsAt, parameterLengthsAt}
 use Rattle.tables.specs.Fitting.{eventInRange, spanInText, textLength, callInRange, hasEvent, fitting}
 use Rattle.header_check.specs.Header.{textWordsOk, countWordsOk, headerOk}
 use Rattle.table_check.specs.Checks.{sumsOk, entriesOk, checks}
-use Rattle.header_check.specs.Unused.{restZero, productionsRest, testsRest, detailsRest, callsRest, parametersRest, unusedOk}
+use Rattle.header_check.specs.Unused.{restZero, productionsRest, testsRest, detailsRest, firstTwoRest, lastTwoRest, callsRest, parametersRest, unusedOk}
 use Rattle.event_check.specs.Events.{eventOk}
+use Rattle.keysym_check.specs.Slots.{keysymsOk, slotsOk}
 use Rattle.span_check.specs.Spans.{lengthOfText, callWordsOk, callOk, parameterOk, parametersOk}
 use Rattle.sequence_check.specs.Sequences.{sizeAt, productionOk}
 use Rattle.tables.proofs.Lists.{all-at, flat-at, length-flat, inAll-total, inAll-flat, inAll-le}
+use Rattle.tables.proofs.EventWords.{range-facts}
 use Rattle.event_check.proofs.EventTests.{range-words}
 use Rattle.tables.proofs.Sizes.{eventSize, length-expanded}
 use Rattle.tables.proofs.Facts.{CallFacts, call-facts, ProductionFacts, production-facts, events-in-all, calls-in-all, parameters-in-all, few-parameters}
@@ -201,6 +203,34 @@ module _ (t : Table) (fit : fitting t ≡ true) (rest : List ℕ) where
         ),
       ))
 
+  first-two : firstTwoRest l (length es) ≡ true
+  unfolding firstTwoRest
+  first-two =
+      chain-all (restZero l firstLowsAt 256 (length es)) (restZero l firstHighsAt 256 (length es) ∷ restZero l secondLowsAt 256 (length es) ∷ restZero l secondHighsAt 256 (length es) ∷ []) (
+        rest-zero firstLowsAt 256 (λ (e : KeptEvent). e .keysyms .first % 65536) es noEvent refl (enc.first-low-word t fit rest),
+        (
+          rest-zero firstHighsAt 256 (λ (e : KeptEvent). e .keysyms .first / 65536) es noEvent refl (enc.first-high-word t fit rest),
+          (
+            rest-zero secondLowsAt 256 (λ (e : KeptEvent). e .keysyms .second % 65536) es noEvent refl (enc.second-low-word t fit rest),
+            (rest-zero secondHighsAt 256 (λ (e : KeptEvent). e .keysyms .second / 65536) es noEvent refl (enc.second-high-word t fit rest), tt),
+          ),
+        ),
+      )
+
+  last-two : lastTwoRest l (length es) ≡ true
+  unfolding lastTwoRest
+  last-two =
+      chain-all (restZero l thirdLowsAt 256 (length es)) (restZero l thirdHighsAt 256 (length es) ∷ restZero l fourthLowsAt 256 (length es) ∷ restZero l fourthHighsAt 256 (length es) ∷ []) (
+        rest-zero thirdLowsAt 256 (λ (e : KeptEvent). e .keysyms .third % 65536) es noEvent refl (enc.third-low-word t fit rest),
+        (
+          rest-zero thirdHighsAt 256 (λ (e : KeptEvent). e .keysyms .third / 65536) es noEvent refl (enc.third-high-word t fit rest),
+          (
+            rest-zero fourthLowsAt 256 (λ (e : KeptEvent). e .keysyms .fourth % 65536) es noEvent refl (enc.fourth-low-word t fit rest),
+            (rest-zero fourthHighsAt 256 (λ (e : KeptEvent). e .keysyms .fourth / 65536) es noEvent refl (enc.fourth-high-word t fit rest), tt),
+          ),
+        ),
+      )
+
   -- ---- Entries
 
   events-below : (i : ℕ) → i < length es → i < 256
@@ -221,6 +251,21 @@ module _ (t : Table) (fit : fitting t ≡ true) (rest : List ℕ) where
       let b = events-below i h in
       rw (enc.code-word t fit rest i b, enc.count-word t fit rest i b, enc.set-word t fit rest i b, enc.clear-word t fit rest i b, enc.flags-word t fit rest i b, enc.low-word t fit rest i b, enc.high-word t fit rest i b)
       (range-words (getD es i noEvent) (all-at eventInRange es i noEvent (enc.fits t fit rest .events) h))
+
+  keysyms-ok : (i : ℕ) → i < length es → keysymsOk l i ≡ true
+  unfolding keysymsOk
+  keysyms-ok i h =
+      rw (enc.keysyms-read t fit rest i (events-below i h))
+      (range-facts (getD es i noEvent) (all-at eventInRange es i noEvent (enc.fits t fit rest .events) h) .keysyms)
+
+  slots-ok : slotsOk l (wordAt l 5) ≡ true
+  unfolding slotsOk
+  slots-ok =
+      rw (enc.events-word t fit rest)
+      (chain-all (every (keysymsOk l) 0 (length es)) (firstTwoRest l (length es) ∷ lastTwoRest l (length es) ∷ []) (
+        every-all (keysymsOk l) 0 (length es) (λ i h. rw zero-add (keysyms-ok i h)),
+        (first-two, (last-two, tt)),
+      ))
 
   call-of : (i : ℕ) → i < length cs → CallFacts t (getD cs i noCall)
   call-of i h = call-facts t (getD cs i noCall) (all-at (callInRange t) cs i noCall (enc.fits t fit rest .calls) h)
@@ -340,4 +385,4 @@ module _ (t : Table) (fit : fitting t ≡ true) (rest : List ℕ) where
   unfolding checks
   checks-encode =
       let b : tableLength ≤ length l = omega (arith, length-append (encode t) rest, length-encode t fit) in
-      rw (le-ltb (length l) tableLength b, header-ok, sums-ok) (and-both (unusedOk l) (entriesOk l) unused-ok entries-ok)
+      rw (le-ltb (length l) tableLength b, header-ok, sums-ok) (chain-all (unusedOk l) (slotsOk l (wordAt l 5) ∷ entriesOk l ∷ []) (unused-ok, (slots-ok, (entries-ok, tt))))

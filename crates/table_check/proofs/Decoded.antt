@@ -20,15 +20,16 @@ use Rattle.model.specs.Tables.{Call, Production, Table}
 use Rattle.model.specs.declared.scan.Span.{Span}
 use Rattle.model.specs.declared.events.KeptEvent.{KeptEvent}
 use Rattle.tables.specs.Layout.{columns, forEach, eventFields, callFields, parameterFields, flag, directiveWord, allEvents, allCalls, allParameters, padded, joinedSections, offset, capacities, headerOf, entriesOf, sectionsOf, image, encode, tableLength}
-use Rattle.tables.specs.Layout.{productionEventsAt, productionCallsAt, codesAt, countsAt, setsAt, clearsAt, flagsAt, lowsAt, highsAt, marksAt, callParametersAt, parameterStartsAt}
-use Rattle.tables.specs.Reading.{directiveFromWord, directiveIn, mergedIn, firstLengthIn, secondLengthIn, productionTotal, parameterEntry, markEntry, nameEntry, callParameters, firstParameter, callEntry, eventEntry, productionEvents, productionCalls, firstEvent, firstCall, productionEntry, decode}
+use Rattle.tables.specs.Layout.{productionEventsAt, productionCallsAt, codesAt, countsAt, setsAt, clearsAt, flagsAt, lowsAt, highsAt, firstLowsAt, firstHighsAt, secondLowsAt, secondHighsAt, thirdLowsAt, thirdHighsAt, fourthLowsAt, fourthHighsAt, marksAt, callParametersAt, parameterStartsAt}
+use Rattle.tables.specs.Reading.{directiveFromWord, directiveIn, mergedIn, firstLengthIn, secondLengthIn, productionTotal, parameterEntry, markEntry, nameEntry, callParameters, firstParameter, callEntry, keysymsEntry, eventEntry, productionEvents, productionCalls, firstEvent, firstCall, productionEntry, decode}
 use Rattle.tables.specs.Fitting.{eventInRange, spanInText, callInRange, textsInRange, hasEvent, fitting}
 use Rattle.header_check.specs.Unused.{restZero}
 use Rattle.event_check.specs.Events.{eventOk}
+use Rattle.keysym_check.specs.Slots.{keysymsOk}
 use Rattle.span_check.specs.Spans.{lengthOfText, parameterOk, parametersOk}
 use Rattle.sequence_check.specs.Sequences.{sizeAt}
 use Rattle.tables.proofs.Lists.{all-run, flat-runs, length-flat, inAll-flat, inAll-le, inAll-run}
-use Rattle.event_check.proofs.EventTests.{words-range, words-back, code-back, count-back}
+use Rattle.event_check.proofs.EventTests.{low-half, high-half, keysymWords, words-range, words-back, code-back, count-back}
 use Rattle.tables.proofs.Sizes.{eventSize, length-expanded}
 use Rattle.tables.proofs.Facts.{facts-fit, facts-text, facts-call, facts-production, facts-limit}
 use Rattle.table_check.proofs.CheckFacts.{CheckFacts, events-within, calls-within}
@@ -140,10 +141,25 @@ module _ (l : List ℕ) (bytes : (i : ℕ) → getD l i 0 < 256) (facts : CheckF
       section-run l (λ (p : Production). length (p .calls)) (productionEntry l) productionCallsAt (wordAt l 4)
       (λ i h. length-run (callEntry l) (firstCall l i) (wordAt l (productionCallsAt + i)))
 
+  -- the words of keysyms
+  keysyms-back : (i : ℕ) → keysymWords (keysymsEntry l i)
+      ≡ (wordAt l (firstLowsAt + i) ∷ wordAt l (firstHighsAt + i) ∷ wordAt l (secondLowsAt + i) ∷ wordAt l (secondHighsAt + i) ∷ wordAt l (thirdLowsAt + i) ∷ wordAt l (thirdHighsAt + i) ∷ wordAt l (fourthLowsAt + i) ∷ wordAt l (fourthHighsAt + i) ∷ [])
+  unfolding keysymsEntry
+  keysyms-back i =
+      consed (low-half (wordAt l (firstLowsAt + i)) (wordAt l (firstHighsAt + i)) (word-below l bytes (firstLowsAt + i)))
+      (consed (high-half (wordAt l (firstLowsAt + i)) (wordAt l (firstHighsAt + i)) (word-below l bytes (firstLowsAt + i)))
+      (consed (low-half (wordAt l (secondLowsAt + i)) (wordAt l (secondHighsAt + i)) (word-below l bytes (secondLowsAt + i)))
+      (consed (high-half (wordAt l (secondLowsAt + i)) (wordAt l (secondHighsAt + i)) (word-below l bytes (secondLowsAt + i)))
+      (consed (low-half (wordAt l (thirdLowsAt + i)) (wordAt l (thirdHighsAt + i)) (word-below l bytes (thirdLowsAt + i)))
+      (consed (high-half (wordAt l (thirdLowsAt + i)) (wordAt l (thirdHighsAt + i)) (word-below l bytes (thirdLowsAt + i)))
+      (consed (low-half (wordAt l (fourthLowsAt + i)) (wordAt l (fourthHighsAt + i)) (word-below l bytes (fourthLowsAt + i)))
+      (consed (high-half (wordAt l (fourthLowsAt + i)) (wordAt l (fourthHighsAt + i)) (word-below l bytes (fourthLowsAt + i))) refl)))))))
+
   event-back : (i : ℕ) → i < wordAt l 5 → map (λ (f : KeptEvent → ℕ). f (eventEntry l i)) eventFields ≡ spread (wordAt l) 256 (length eventFields) codesAt i
   unfolding eventEntry eventOk spread
   event-back i h =
-      words-back (wordAt l (codesAt + i)) (wordAt l (countsAt + i)) (wordAt l (setsAt + i)) (wordAt l (clearsAt + i)) (wordAt l (flagsAt + i)) (wordAt l (lowsAt + i)) (wordAt l (highsAt + i)) (facts .events i h) (word-below l bytes (lowsAt + i))
+      words-back (wordAt l (codesAt + i)) (wordAt l (countsAt + i)) (wordAt l (setsAt + i)) (wordAt l (clearsAt + i)) (wordAt l (flagsAt + i)) (wordAt l (lowsAt + i)) (wordAt l (highsAt + i)) (keysymsEntry l i) (facts .events i h) (word-below l bytes (flagsAt + i)) (word-below l bytes (lowsAt + i))
+      ∙ ap (λ (ws : List ℕ). wordAt l (codesAt + i) ∷ wordAt l (countsAt + i) ∷ wordAt l (setsAt + i) ∷ wordAt l (clearsAt + i) ∷ wordAt l (flagsAt + i) ∷ wordAt l (lowsAt + i) ∷ wordAt l (highsAt + i) ∷ ws) (keysyms-back i)
 
   call-back : (i : ℕ) → i < wordAt l 6 → map (λ (f : Call → ℕ). f (callEntry l i)) callFields ≡ spread (wordAt l) 128 (length callFields) marksAt i
   unfolding callEntry markEntry nameEntry callParameters spread
@@ -180,13 +196,13 @@ module _ (l : List ℕ) (bytes : (i : ℕ) → getD l i 0 < 256) (facts : CheckF
       ∙ ap (λ (rs : List Span). columns eventFields (run (eventEntry l) 0 (wordAt l 5)) ++ (columns callFields (run (callEntry l) 0 (wordAt l 6)) ++ columns parameterFields rs)) parameters-flat
       ∙ columns-runs l 256 (eventEntry l) (wordAt l 5) eventFields codesAt marksAt (forEach callFields 128 ++ forEach parameterFields 256) (forEach callFields (wordAt l 6) ++ forEach parameterFields (wordAt l 7)) (columns callFields (run (callEntry l) 0 (wordAt l 6)) ++ columns parameterFields (run (parameterEntry l) 0 (wordAt l 7))) refl event-back
       (columns-runs l 128 (callEntry l) (wordAt l 6) callFields marksAt parameterStartsAt (forEach parameterFields 256) (forEach parameterFields (wordAt l 7)) (columns parameterFields (run (parameterEntry l) 0 (wordAt l 7))) refl call-back
-      (columns-runs l 256 (parameterEntry l) (wordAt l 7) parameterFields parameterStartsAt 2952 [] [] [] refl parameter-back refl)))))
+      (columns-runs l 256 (parameterEntry l) (wordAt l 7) parameterFields parameterStartsAt 5000 [] [] [] refl parameter-back refl)))))
 
   -- the bytes are those of the table
   pub bytes-same : take tableLength l ≡ encode (decode l)
   unfolding encode image
   bytes-same =
-      bytes-run l 0 2952 bytes (facts .long)
+      bytes-run l 0 5000 bytes (facts .long)
       ∙ sym (ap (λ (ss : List (List ℕ)). wordBytes (joinedSections capacities ss)) sections-runs ∙ ap wordBytes (joined-runs l capacities (used l) 0 (facts .rests)))
 
   -- ---- The table fits
@@ -209,13 +225,15 @@ module _ (l : List ℕ) (bytes : (i : ℕ) → getD l i 0 < 256) (facts : CheckF
       (le-leb 1 (wordAt l (productionEventsAt + i)) (facts .productions i h .events)))
 
   pub event-range : (i : ℕ) → i < wordAt l 5 → eventInRange (eventEntry l i) ≡ true
-  unfolding eventEntry eventOk
-  event-range i h = words-range (wordAt l (codesAt + i)) (wordAt l (countsAt + i)) (wordAt l (setsAt + i)) (wordAt l (clearsAt + i)) (wordAt l (flagsAt + i)) (wordAt l (lowsAt + i)) (wordAt l (highsAt + i)) (facts .events i h) (word-below l bytes (lowsAt + i))
+  unfolding eventEntry eventOk keysymsOk
+  event-range i h =
+      words-range (wordAt l (codesAt + i)) (wordAt l (countsAt + i)) (wordAt l (setsAt + i)) (wordAt l (clearsAt + i)) (wordAt l (flagsAt + i)) (wordAt l (lowsAt + i)) (wordAt l (highsAt + i)) (keysymsEntry l i) (facts .events i h) (word-below l bytes (flagsAt + i)) (word-below l bytes (lowsAt + i))
+      (facts .keysyms i h)
 
   event-size : (i : ℕ) → i < wordAt l 5 → eventSize (eventEntry l i) ≡ sizeAt l i
   unfolding eventEntry eventOk sizeAt
   event-size i h =
-      rw (code-back (wordAt l (codesAt + i)) (wordAt l (countsAt + i)) (wordAt l (setsAt + i)) (wordAt l (clearsAt + i)) (wordAt l (flagsAt + i)) (wordAt l (lowsAt + i)) (wordAt l (highsAt + i)) (facts .events i h) (word-below l bytes (lowsAt + i)), count-back (wordAt l (codesAt + i)) (wordAt l (countsAt + i)) (wordAt l (setsAt + i)) (wordAt l (clearsAt + i)) (wordAt l (flagsAt + i)) (wordAt l (lowsAt + i)) (wordAt l (highsAt + i)) (facts .events i h) (word-below l bytes (lowsAt + i)))
+      rw (code-back (wordAt l (codesAt + i)) (wordAt l (countsAt + i)) (wordAt l (setsAt + i)) (wordAt l (clearsAt + i)) (wordAt l (flagsAt + i)) (wordAt l (lowsAt + i)) (wordAt l (highsAt + i)) (keysymsEntry l i) (facts .events i h) (word-below l bytes (flagsAt + i)) (word-below l bytes (lowsAt + i)), count-back (wordAt l (codesAt + i)) (wordAt l (countsAt + i)) (wordAt l (setsAt + i)) (wordAt l (clearsAt + i)) (wordAt l (flagsAt + i)) (wordAt l (lowsAt + i)) (wordAt l (highsAt + i)) (keysymsEntry l i) (facts .events i h) (word-below l bytes (flagsAt + i)) (word-below l bytes (lowsAt + i)))
 
   events-fit : all eventInRange (allEvents (decode l .productions)) ≡ true
   events-fit = rw events-flat (all-run eventInRange (eventEntry l) 0 (wordAt l 5) (λ i h. rw zero-add (event-range i h)))

@@ -13,6 +13,7 @@ use Rattle.header_check.specs.Unused.{unusedOk}
 use Rattle.words.specs.Words.{wordAt}
 use Rattle.words.specs.Runs.{every, total}
 use Rattle.event_check.specs.Events.{eventOk}
+use Rattle.keysym_check.specs.Slots.{slotsOk}
 use Rattle.span_check.specs.Spans.{callOk, parametersOk}
 use Rattle.sequence_check.specs.Sequences.{productionOk, sizeAt, sequencesOk}
 
@@ -27,9 +28,9 @@ module _ (l : List ℕ) where
   unfolding checks
   checks-header h e = rw (le-ltb (length l) tableLength h, e)
 
-  pub checks-last : tableLength ≤ length l → headerOk l ≡ true → checks l ≡ (unusedOk l && (sumsOk l && entriesOk l))
+  pub checks-last : tableLength ≤ length l → headerOk l ≡ true → checks l ≡ (unusedOk l && slotsOk l (wordAt l 5) && (sumsOk l && entriesOk l))
   unfolding checks
-  checks-last h e = rw (le-ltb (length l) tableLength h, e) (go (sumsOk l) (unusedOk l))
+  checks-last h e = rw (le-ltb (length l) tableLength h, e) (go (sumsOk l) (unusedOk l && slotsOk l (wordAt l 5)))
     where
       go : (s u : Bool) → cond s (u && entriesOk l) false ≡ (u && (s && entriesOk l))
       go true u = refl

@@ -10,6 +10,7 @@ use Rattle.tables.specs.Layout.{productionEventsAt, productionCallsAt, callPara
 use Rattle.header_check.specs.Header.{headerOk}
 use Rattle.header_check.specs.Unused.{unusedOk}
 use Rattle.event_check.specs.Events.{eventOk}
+use Rattle.keysym_check.specs.Slots.{slotsOk}
 use Rattle.span_check.specs.Spans.{callOk, parametersOk}
 use Rattle.sequence_check.specs.Sequences.{sizeAt, productionOk}
 
@@ -30,4 +31,4 @@ entriesOk l =
 unfoldable pub checks : List ℕ → Bool
 checks l =
     cond (ltb (length l) tableLength) false
-    (cond (headerOk l) (cond (sumsOk l) (unusedOk l && entriesOk l) false) false)
+    (cond (headerOk l) (cond (sumsOk l) (unusedOk l && slotsOk l (wordAt l 5) && entriesOk l) false) false)

@@ -43,5 +43,6 @@ pub fn whole(l: &[u8]) -> bool
     if !header_check::header_ok(l) {
         return false;
     }
-    header_check::unused_ok(l) & entries_ok(l)
+    let events = words::word_at(l, places::EVENTS) as usize;
+    header_check::unused_ok(l) & keysym_check::slots_ok(l, events) & entries_ok(l)
 }

@@ -16,7 +16,7 @@ use Rattle.model.specs.Events.{WrittenEvent, EventsRead, events, leftSide}
 use Rattle.model.specs.Calls.{WrittenCall, CallsRead, calls, rightSide}
 use Rattle.model.specs.Judging.{judged}
 use Rattle.model.specs.Tables.{Production, Table}
-use Rattle.model.specs.Compiling.{totalsPass, passesLimit, withCalls, withEvents, lineRead, EventsJudged, keep, keepOneMore, judgedNext, judgedAll, inText, callOf, LineOutcome, add, lineJudged, lineFrom, lineOutcome, Outcome, accepted, refused, tableOf, goOn, afterLine, afterDirective, linesFrom, linesOf, afterBytes, compiled}
+use Rattle.model.specs.Compiling.{totalsPass, passesLimit, withCalls, withEvents, lineRead, EventsJudged, keep, crowded, keepOneMore, crowdedWith, judgedNext, judgedAll, inText, callOf, LineOutcome, add, lineJudged, lineFrom, lineOutcome, Outcome, accepted, refused, tableOf, goOn, afterLine, afterDirective, linesFrom, linesOf, afterBytes, compiled}
 use Rattle.model.specs.declared.scan.Span.{Span}
 use Rattle.model.specs.declared.events.KeptEvent.{KeptEvent}
 use Rattle.model.specs.declared.events.Directive.{Directive}
@@ -37,14 +37,23 @@ use Rattle.tables.proofs.JudgedRange.{InRange, judged-range}
 
 abbrev KeptGood : List WrittenEvent → EventsJudged → Type 0
 KeptGood es (keep ks) = (all eventInRange ks ≡ true) × (length ks ≡ length es)
+KeptGood es crowded = Unit
 KeptGood es (EventsJudged.refuse n) = Unit
 
 kept-more : (e : WrittenEvent) (es : List WrittenEvent) (k : KeptEvent) (r : EventsJudged) → eventInRange k ≡ true → KeptGood es r → KeptGood (e ∷ es) (keepOneMore k r)
 kept-more e es k (keep ks) a g = (and-both (eventInRange k) (all eventInRange ks) a (g .0), ap suc (g .1))
+kept-more e es k crowded a g = tt
 kept-more e es k (EventsJudged.refuse n) a g = tt
+
+-- a crowded event keeps none
+kept-crowded : (e : WrittenEvent) (es : List WrittenEvent) (r : EventsJudged) → KeptGood (e ∷ es) (crowdedWith r)
+kept-crowded e es (keep ks) = tt
+kept-crowded e es crowded = tt
+kept-crowded e es (EventsJudged.refuse n) = tt
 
 kept-next : (e : WrittenEvent) (es : List WrittenEvent) (j : Judged) (r : EventsJudged) → InRange j → KeptGood es r → KeptGood (e ∷ es) (judgedNext j r)
 kept-next e es (Judged.Keep k) r a g = kept-more e es k r a g
+kept-next e es Judged.Crowded r a g = kept-crowded e es r
 kept-next e es (Judged.Refuse n) r a g = tt
 
 kept-all : (es : List WrittenEvent) → AllSmall es → KeptGood es (judgedAll es)
@@ -100,6 +109,7 @@ judged-good n base m before es (keep ks) cs s g w h =
     cond-both (LineGood n before) (passesLimit (before ++ (record { events = ks; calls = map (callOf base) cs } ∷ []))) (LineOutcome.refuse 11) (add (record { events = ks; calls = map (callOf base) cs }))
     (λ _. tt)
     (λ e. (record { some = le-leb 1 (length ks) (let a = at-least-one es s in let b = g .1 in omega arith); events = g .0; calls = calls-in base m n cs w h }, e))
+judged-good n base m before es crowded cs s g w h = tt
 judged-good n base m before es (EventsJudged.refuse k) cs s g w h = tt
 
 calls-line : (n base m : ℕ) (before : List Production) (es : List WrittenEvent) (r : CallsRead) → AllSmall es → Some es → CallsGood m r → base + m ≤ n

@@ -1,5 +1,5 @@
 -- A table within limits and ranges, as bytes, reads as itself.
-use Prim.Native.Nat.{ℕ, zero, suc, _+_, _≤_, _<_}
+use Prim.Native.Nat.{ℕ, zero, suc, _+_, _%_, _/_, _≤_, _<_}
 use native.Mathlib.Omega.{arith}
 use native.Mathlib.Nat.{zero-add}
 use mathlib.Core.Path.{_≡_, refl, sym, ap, _∙_}
@@ -14,16 +14,17 @@ use Rattle.words.proofs.RunLaws.{run-list, total-same}
 use Rattle.model.specs.Counts.{sequence}
 use Rattle.model.specs.Compiling.{productionPasses}
 use Rattle.model.specs.Tables.{Call, Production, Table}
+use Rattle.model.specs.Named.{noKeysyms}
 use Rattle.model.specs.declared.scan.Span.{Span}
 use Rattle.model.specs.declared.events.Detail.{Detail}
 use Rattle.model.specs.declared.events.KeptEvent.{KeptEvent}
 use Rattle.model.specs.declared.events.Directive.{Directive}
 use Rattle.tables.specs.Layout.{columns, forEach, eventFields, callFields, parameterFields, flag, isGiven, valueOf, flagsWord, lowWord, highWord, markWord, directiveWord, allEvents, allCalls, allParameters, headerOf, entriesOf, sectionsOf, offset, capacities, encode}
-use Rattle.tables.specs.Layout.{productionEventsAt, productionCallsAt, codesAt, countsAt, setsAt, clearsAt, flagsAt, lowsAt, highsAt, marksAt, nameStartsAt, nameLengthsAt, callParametersAt, parameterStartsAt, parameterLengthsAt}
-use Rattle.tables.specs.Reading.{directiveFromWord, directiveIn, mergedIn, firstLengthIn, secondLengthIn, productionTotal, parameterEntry, markEntry, nameEntry, callParameters, firstParameter, callEntry, eventEntry, productionEvents, productionCalls, firstEvent, firstCall, productionEntry, decode}
+use Rattle.tables.specs.Layout.{productionEventsAt, productionCallsAt, codesAt, countsAt, setsAt, clearsAt, flagsAt, lowsAt, highsAt, firstLowsAt, firstHighsAt, secondLowsAt, secondHighsAt, thirdLowsAt, thirdHighsAt, fourthLowsAt, fourthHighsAt, marksAt, nameStartsAt, nameLengthsAt, callParametersAt, parameterStartsAt, parameterLengthsAt}
+use Rattle.tables.specs.Reading.{directiveFromWord, directiveIn, mergedIn, firstLengthIn, secondLengthIn, productionTotal, parameterEntry, markEntry, nameEntry, callParameters, firstParameter, callEntry, keysymsEntry, eventEntry, productionEvents, productionCalls, firstEvent, firstCall, productionEntry, decode}
 use Rattle.tables.specs.Fitting.{eventInRange, fitting}
 use Rattle.tables.proofs.Lists.{each-getD, nested}
-use Rattle.tables.proofs.EventWords.{flag-le, RangeFacts, range-facts, flags-below, event-back}
+use Rattle.tables.proofs.EventWords.{flag-le, RangeFacts, range-facts, KeysymFacts, keysym-facts, keysym-below, flags-below, keysyms-back, event-back}
 use Rattle.tables.proofs.Sizes.{length-expanded, length-le-size}
 use Rattle.tables.proofs.Facts.{FitFacts, fit-facts, TextFacts, text-facts, short-span, short-spans, short-names, short-facts, ProductionFacts, production-facts, LimitFacts, limit-facts, events-in-all, calls-in-all, parameters-in-all, few-parameters}
 use Rattle.tables.proofs.Columns.{spread, reach}
@@ -32,7 +33,19 @@ use Rattle.tables.proofs.Images.{Room, section-word, row-words, beforeE
 -- ---- What stands at an unused place
 
 abbrev pub noEvent : KeptEvent
-noEvent = record { code = 0; set = 0; clear = 0; colon = false; clause = false; detail = Detail.Unspecified; count = 0 }
+noEvent =
+    record {
+      code = 0;
+      set = 0;
+      clear = 0;
+      colon = false;
+      clause = false;
+      detail = Detail.Unspecified;
+      count = 0;
+      bang = false;
+      names = 0;
+      keysyms = noKeysyms;
+    }
 
 abbrev pub noSpan : Span
 noSpan = record { start = 0; len = 0 }
@@ -51,14 +64,43 @@ pub record EventSmall (e : KeptEvent) : Type 0 where
   pub set : e .set < 8192
   pub clear : e .clear < 8192
   pub value : valueOf (e .detail) ≤ 0x1FFFFFFF
+  pub names : e .names < 256
+  pub first : e .keysyms .first < 0x80000000
+  pub second : e .keysyms .second < 0x80000000
+  pub third : e .keysyms .third < 0x80000000
+  pub fourth : e .keysyms .fourth < 0x80000000
 
 none-small : EventSmall noEvent
-none-small = record { code = omega arith; count = omega arith; set = omega arith; clear = omega arith; value = omega arith }
+none-small =
+    record {
+      code = omega arith;
+      count = omega arith;
+      set = omega arith;
+      clear = omega arith;
+      value = omega arith;
+      names = omega arith;
+      first = omega arith;
+      second = omega arith;
+      third = omega arith;
+      fourth = omega arith;
+    }
 
 pub event-small : (e : KeptEvent) → eventInRange e ≡ true → EventSmall e
 event-small e h =
     let r : RangeFacts e = range-facts e h in
-    record { code = omega arith; count = omega arith; set = r .setBelow; clear = r .clearBelow; value = r .detail }
+    let k : KeysymFacts (e .keysyms) = keysym-facts (e .keysyms) (r .keysyms) in
+    record {
+      code = omega arith;
+      count = omega arith;
+      set = r .setBelow;
+      clear = r .clearBelow;
+      value = r .detail;
+      names = r .namesBelow;
+      first = keysym-below (e .keysyms .first) (k .first);
+      second = keysym-below (e .keysyms .second) (k .second);
+      third = keysym-below (e .keysyms .third) (k .third);
+      fourth = keysym-below (e .keysyms .fourth) (k .fourth);
+    }
 
 -- each field of an event
 fields-small : (e : KeptEvent) → EventSmall e → (k : ℕ) → getD (map (λ (f : KeptEvent → ℕ). f e) eventFields) k 0 < 65536
@@ -66,10 +108,18 @@ fields-small e s zero = let b = s .code in omega arith
 fields-small e s (suc zero) = let b = s .count in omega arith
 fields-small e s (suc (suc zero)) = let b = s .set in omega arith
 fields-small e s (suc (suc (suc zero))) = let b = s .clear in omega arith
-fields-small e s (suc (suc (suc (suc zero)))) = let b = flags-below (e .colon) (e .clause) (isGiven (e .detail)) in omega arith
+fields-small e s (suc (suc (suc (suc zero)))) = let b = flags-below (e .colon) (e .clause) (isGiven (e .detail)) (e .bang) in let n = s .names in omega arith
 fields-small e s (suc (suc (suc (suc (suc zero))))) = omega arith
 fields-small e s (suc (suc (suc (suc (suc (suc zero)))))) = let b = s .value in omega arith
-fields-small e s (suc (suc (suc (suc (suc (suc (suc k))))))) = omega arith
+fields-small e s (suc (suc (suc (suc (suc (suc (suc zero))))))) = omega arith
+fields-small e s (suc (suc (suc (suc (suc (suc (suc (suc zero)))))))) = let b = s .first in omega arith
+fields-small e s (suc (suc (suc (suc (suc (suc (suc (suc (suc zero))))))))) = omega arith
+fields-small e s (suc (suc (suc (suc (suc (suc (suc (suc (suc (suc zero)))))))))) = let b = s .second in omega arith
+fields-small e s (suc (suc (suc (suc (suc (suc (suc (suc (suc (suc (suc zero))))))))))) = omega arith
+fields-small e s (suc (suc (suc (suc (suc (suc (suc (suc (suc (suc (suc (suc zero)))))))))))) = let b = s .third in omega arith
+fields-small e s (suc (suc (suc (suc (suc (suc (suc (suc (suc (suc (suc (suc (suc zero))))))))))))) = omega arith
+fields-small e s (suc (suc (suc (suc (suc (suc (suc (suc (suc (suc (suc (suc (suc (suc zero)))))))))))))) = let b = s .fourth in omega arith
+fields-small e s (suc (suc (suc (suc (suc (suc (suc (suc (suc (suc (suc (suc (suc (suc (suc k))))))))))))))) = omega arith
 
 directive-small : (d : Directive) → directiveWord d ≤ 2
 directive-small Directive.Replace = omega arith
@@ -174,11 +224,49 @@ module _ (t : Table) (fit : fitting t ≡ true) (rest : List ℕ) where
   unfolding spread
   high-word i h = ap (λ (ws : List ℕ). getD ws 6 0) (event-words i h)
 
+  pub first-low-word : (i : ℕ) → i < 256 → wordAt l (firstLowsAt + i) ≡ getD es i noEvent .keysyms .first % 65536
+  unfolding spread
+  first-low-word i h = ap (λ (ws : List ℕ). getD ws 7 0) (event-words i h)
+
+  pub first-high-word : (i : ℕ) → i < 256 → wordAt l (firstHighsAt + i) ≡ getD es i noEvent .keysyms .first / 65536
+  unfolding spread
+  first-high-word i h = ap (λ (ws : List ℕ). getD ws 8 0) (event-words i h)
+
+  pub second-low-word : (i : ℕ) → i < 256 → wordAt l (secondLowsAt + i) ≡ getD es i noEvent .keysyms .second % 65536
+  unfolding spread
+  second-low-word i h = ap (λ (ws : List ℕ). getD ws 9 0) (event-words i h)
+
+  pub second-high-word : (i : ℕ) → i < 256 → wordAt l (secondHighsAt + i) ≡ getD es i noEvent .keysyms .second / 65536
+  unfolding spread
+  second-high-word i h = ap (λ (ws : List ℕ). getD ws 10 0) (event-words i h)
+
+  pub third-low-word : (i : ℕ) → i < 256 → wordAt l (thirdLowsAt + i) ≡ getD es i noEvent .keysyms .third % 65536
+  unfolding spread
+  third-low-word i h = ap (λ (ws : List ℕ). getD ws 11 0) (event-words i h)
+
+  pub third-high-word : (i : ℕ) → i < 256 → wordAt l (thirdHighsAt + i) ≡ getD es i noEvent .keysyms .third / 65536
+  unfolding spread
+  third-high-word i h = ap (λ (ws : List ℕ). getD ws 12 0) (event-words i h)
+
+  pub fourth-low-word : (i : ℕ) → i < 256 → wordAt l (fourthLowsAt + i) ≡ getD es i noEvent .keysyms .fourth % 65536
+  unfolding spread
+  fourth-low-word i h = ap (λ (ws : List ℕ). getD ws 13 0) (event-words i h)
+
+  pub fourth-high-word : (i : ℕ) → i < 256 → wordAt l (fourthHighsAt + i) ≡ getD es i noEvent .keysyms .fourth / 65536
+  unfolding spread
+  fourth-high-word i h = ap (λ (ws : List ℕ). getD ws 14 0) (event-words i h)
+
+  pub keysyms-read : (i : ℕ) → i < 256 → keysymsEntry l i ≡ getD es i noEvent .keysyms
+  unfolding keysymsEntry
+  keysyms-read i h =
+      rw (first-low-word i h, first-high-word i h, second-low-word i h, second-high-word i h, third-low-word i h, third-high-word i h, fourth-low-word i h, fourth-high-word i h)
+      (keysyms-back (getD es i noEvent .keysyms))
+
   event-read : (i : ℕ) → i < 256 → eventEntry l i ≡ getD es i noEvent
   unfolding eventEntry
   event-read i h =
-      rw (code-word i h, count-word i h, set-word i h, clear-word i h, flags-word i h, low-word i h, high-word i h)
-      (event-back (getD es i noEvent) (small i .code) (small i .count))
+      rw (code-word i h, count-word i h, set-word i h, clear-word i h, flags-word i h, low-word i h, high-word i h, keysyms-read i h)
+      (event-back (getD es i noEvent) (small i .code) (small i .count) (small i .names))
 
   -- ---- Parameters
 

@@ -2,15 +2,17 @@
 use Prim.Native.Nat.{ℕ, zero, suc, _+_, _-_, _<_}
 use mathlib.Core.Path.{_≡_, sym, _∙_}
 use mathlib.Core.List.{List, [], _∷_, _++_}
-use mathlib.Core.Bool.{true, false, cond, false≢true}
+use mathlib.Core.Bool.{Bool, true, false, cond, false≢true}
 use mathlib.Core.Option.{Option, none, some}
 use lib.Dec.{leb}
 use lib.ListN.{length, drop}
-use Rattle.model.specs.Lists.{part}
+use Rattle.model.specs.Lists.{bytes, part, any}
 use Rattle.model.specs.Bytes.{isTab, byteAt, signAt, runEnd, skip}
-use Rattle.model.specs.Events.{Modifiers, modifiers, ModifierList, Count, KeyChar, WrittenEvent, event, key, leadAt, listOf, modifiersAt, typeAt, countAt, EventsRead, events, withDetail, withCount, withType, withList, withModifiers, plainEventAt, markedKey, keyAt, oneMoreKey, keysNext, keysFrom, keySequenceAt, eventsFrom, eventsAt, afterEventAt, joinEvents, afterEvents, leftNext, leftFrom, leftSide}
+use Rattle.model.specs.Events.{Modifier, name, keysym, modifierAt, oneMore, modifiersNext, modifiersFrom, isNamed, isNoneOrAny, standsAlone, loneList, Modifiers, modifiers, ModifierList, listed, noModifier, anyModifier, Count, KeyChar, WrittenEvent, event, key, leadAt, listOf, modifiersAt, typeAt, countAt, EventsRead, events, withDetail, withCount, withType, withList, withModifiers, plainEventAt, markedKey, keyAt, oneMoreKey, keysNext, keysFrom, keySequenceAt, eventsFrom, eventsAt, afterEventAt, joinEvents, afterEvents, leftNext, leftFrom, leftSide}
+use Rattle.model.specs.Modifiers.{modifiersOf}
 use Rattle.model.specs.declared.scan.Class.{Class}
 use Rattle.model.specs.declared.scan.Lead.{Lead}
+use Rattle.model.specs.declared.scan.ModifierRead.{ModifierRead}
 use Rattle.model.specs.declared.scan.TypeRead.{TypeRead}
 use Rattle.model.specs.declared.scan.CountRead.{CountRead}
 use Rattle.model.specs.declared.scan.KeyMark.{KeyMark}
@@ -18,8 +20,16 @@ use Rattle.model.specs.declared.scan.KeyRead.{KeyRead}
 use Rattle.model.specs.declared.scan.AfterEvent.{AfterEvent}
 use Rattle.tables.proofs.Positions.{cond-both, Small, small-take, small-drop}
 
+abbrev ModifierSmall : Modifier → Type 0
+ModifierSmall (name tilde word) = Unit
+ModifierSmall (keysym tilde word) = Small word
+
+abbrev pub ModifiersSmall : List Modifier → Type 0
+ModifiersSmall [] = Unit
+ModifiersSmall (m ∷ ms) = ModifierSmall m × ModifiersSmall ms
+
 abbrev pub WrittenSmall : WrittenEvent → Type 0
-WrittenSmall (event w) = Small (w .detail)
+WrittenSmall (event w) = Small (w .detail) × ModifiersSmall (modifiersOf (w .list))
 WrittenSmall (key k) = k .byte < 256
 
 abbrev pub AllSmall : List WrittenEvent → Type 0
@@ -40,32 +50,68 @@ abbrev pub Good : EventsRead → Type 0
 Good EventsRead.broken = Unit
 Good (events es next) = AllSmall es × Some es
 
+-- ---- Modifiers
+
+abbrev ReadSmall : Modifiers → Type 0
+ReadSmall Modifiers.broken = Unit
+ReadSmall (modifiers ms end) = ModifiersSmall ms
+
+abbrev ListSmall : Option ModifierList → Type 0
+ListSmall none = Unit
+ListSmall (some list) = ModifiersSmall (modifiersOf list)
+
+one-small : (m : Modifier) (r : Modifiers) → ModifierSmall m → ReadSmall r → ReadSmall (oneMore m r)
+one-small m Modifiers.broken a b = tt
+one-small m (modifiers ms end) a b = (a, b)
+
+next-small : (l : List ℕ) (r : ModifierRead) (rest : ℕ → Modifiers) → Small l → ((p : ℕ) → ReadSmall (rest p)) → ReadSmall (modifiersNext l r rest)
+next-small l ModifierRead.Broken rest s f = tt
+next-small l (ModifierRead.End at) rest s f = tt
+next-small l (ModifierRead.Name tilde start end) rest s f = one-small (name tilde (part l start end)) (rest end) tt (f end)
+next-small l (ModifierRead.Keysym tilde start end) rest s f =
+    one-small (keysym tilde (part l start end)) (rest end) (small-take (end - start) (drop start l) (small-drop start l s)) (f end)
+
+modifiers-small : (fuel : ℕ) (l : List ℕ) (at : ℕ) → Small l → ReadSmall (modifiersFrom fuel l at)
+unfolding modifiersFrom
+modifiers-small zero l at s = tt
+modifiers-small (suc fuel) l at s = next-small l (modifierAt l at) (λ p. modifiersFrom fuel l p) s (λ p. modifiers-small fuel l p s)
+
+list-small : (bang colon : Bool) (ms : List Modifier) → ModifiersSmall ms → ListSmall (listOf bang colon ms)
+unfolding listOf
+list-small bang colon ms a =
+    cond-both ListSmall (any isNoneOrAny ms) (cond (standsAlone bang colon ms) (some (loneList ms)) none) (some (listed bang colon ms))
+    (λ _. cond-both ListSmall (standsAlone bang colon ms) (some (loneList ms)) none
+    (λ _. cond-both (λ (list : ModifierList). ModifiersSmall (modifiersOf list)) (any (isNamed (bytes "None")) ms) noModifier anyModifier (λ _. tt) (λ _. tt))
+    (λ _. tt))
+    (λ _. a)
+
 -- ---- One event
 
-detail-good : (l : List ℕ) (list : ModifierList) (word : List ℕ) (count : Option Count) (start : ℕ) → Small l → Good (withDetail l list word count start)
-detail-good l list word count start s =
-    ((small-take (runEnd Class.Detail l start - start) (drop start l) (small-drop start l s), tt), tt)
+detail-good : (l : List ℕ) (list : ModifierList) (word : List ℕ) (count : Option Count) (start : ℕ) → Small l → ModifiersSmall (modifiersOf list) → Good (withDetail l list word count start)
+detail-good l list word count start s m =
+    (((small-take (runEnd Class.Detail l start - start) (drop start l) (small-drop start l s), m), tt), tt)
 
-count-good : (l : List ℕ) (list : ModifierList) (word : List ℕ) (r : CountRead) → Small l → Good (withCount l list word r)
-count-good l list word CountRead.Broken s = tt
-count-good l list word (CountRead.Absent next) s = detail-good l list word none (skip l next) s
-count-good l list word (CountRead.Digits start end plus next) s = detail-good l list word (some (record { digits = part l start end; plus = plus })) (skip l next) s
+count-good : (l : List ℕ) (list : ModifierList) (word : List ℕ) (r : CountRead) → Small l → ModifiersSmall (modifiersOf list) → Good (withCount l list word r)
+count-good l list word CountRead.Broken s m = tt
+count-good l list word (CountRead.Absent next) s m = detail-good l list word none (skip l next) s m
+count-good l list word (CountRead.Digits start end plus next) s m = detail-good l list word (some (record { digits = part l start end; plus = plus })) (skip l next) s m
 
-type-good : (l : List ℕ) (list : ModifierList) (r : TypeRead) → Small l → Good (withType l list r)
-type-good l list TypeRead.Broken s = tt
-type-good l list (TypeRead.Type start end next) s = count-good l list (part l start end) (countAt l next) s
+type-good : (l : List ℕ) (list : ModifierList) (r : TypeRead) → Small l → ModifiersSmall (modifiersOf list) → Good (withType l list r)
+type-good l list TypeRead.Broken s m = tt
+type-good l list (TypeRead.Type start end next) s m = count-good l list (part l start end) (countAt l next) s m
 
-list-good : (l : List ℕ) (list : Option ModifierList) (end : ℕ) → Small l → Good (withList l list end)
-list-good l none end s = tt
-list-good l (some list) end s = type-good l list (typeAt l end) s
+list-good : (l : List ℕ) (list : Option ModifierList) (end : ℕ) → Small l → ListSmall list → Good (withList l list end)
+list-good l none end s m = tt
+list-good l (some list) end s m = type-good l list (typeAt l end) s m
 
-modifiers-good : (l : List ℕ) (lead : Lead) (r : Modifiers) → Small l → Good (withModifiers l lead r)
-modifiers-good l lead Modifiers.broken s = tt
-modifiers-good l lead (modifiers ms end) s = list-good l (listOf (lead .bang) (lead .colon) ms) end s
+modifiers-good : (l : List ℕ) (lead : Lead) (r : Modifiers) → Small l → ReadSmall r → Good (withModifiers l lead r)
+modifiers-good l lead Modifiers.broken s m = tt
+modifiers-good l lead (modifiers ms end) s m = list-good l (listOf (lead .bang) (lead .colon) ms) end s (list-small (lead .bang) (lead .colon) ms m)
 
 plain-good : (l : List ℕ) (at : ℕ) → Small l → Good (plainEventAt l at)
 unfolding plainEventAt
-plain-good l at s = modifiers-good l (leadAt l at) (modifiersAt l (leadAt l at .next)) s
+plain-good l at s =
+    modifiers-good l (leadAt l at) (modifiersAt l (leadAt l at .next)) s (modifiers-small (length l + 1) l (leadAt l at .next) s)
 
 -- ---- A key sequence
 

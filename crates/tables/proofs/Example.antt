@@ -4,6 +4,7 @@ use mathlib.Core.List.{List, [], _∷_}
 use mathlib.Core.Bool.{false}
 use Prim.Native.Nat.{ℕ}
 use Rattle.model.specs.Tables.{Table}
+use Rattle.model.specs.Named.{noKeysyms}
 use Rattle.model.specs.declared.events.Detail.{Detail}
 use Rattle.model.specs.declared.events.Directive.{Directive}
 use Rattle.model.specs.declared.events.KeptEvent.{KeptEvent}
@@ -11,11 +12,11 @@ use Rattle.tables.specs.Layout.{flat, columns, headerOf, entriesOf, sect
 
 -- Ctrl<Key>a
 abbrev controlA : KeptEvent
-controlA = record { code = 2; set = 4; clear = 0; colon = false; clause = false; detail = Detail.Value 97; count = 1 }
+controlA = record { code = 2; set = 4; clear = 0; colon = false; clause = false; detail = Detail.Value 97; count = 1; bang = false; names = 0; keysyms = noKeysyms }
 
 -- <Btn1Down>
 abbrev firstButton : KeptEvent
-firstButton = record { code = 4; set = 0; clear = 0; colon = false; clause = false; detail = Detail.Value 1; count = 1 }
+firstButton = record { code = 4; set = 0; clear = 0; colon = false; clause = false; detail = Detail.Value 1; count = 1; bang = false; names = 0; keysyms = noKeysyms }
 
 -- of a text of 32 bytes, with f, x and g at 12, 14 and 29
 abbrev twoLines : Table
@@ -53,6 +54,14 @@ pub shown-sections : sectionsOf (entriesOf twoLines)
     ∷ (0 ∷ 0 ∷ [])
     ∷ (4 ∷ 4 ∷ [])
     ∷ (97 ∷ 1 ∷ [])
+    ∷ (0 ∷ 0 ∷ [])
+    ∷ (0 ∷ 0 ∷ [])
+    ∷ (0 ∷ 0 ∷ [])
+    ∷ (0 ∷ 0 ∷ [])
+    ∷ (0 ∷ 0 ∷ [])
+    ∷ (0 ∷ 0 ∷ [])
+    ∷ (0 ∷ 0 ∷ [])
+    ∷ (0 ∷ 0 ∷ [])
     ∷ (0 ∷ 0 ∷ [])
     ∷ (0 ∷ 0 ∷ [])
     ∷ (12 ∷ 29 ∷ [])

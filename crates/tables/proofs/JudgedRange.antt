@@ -9,27 +9,30 @@ use lib.Dec.{eqb, leb, ltb}
 use lib.ListN.{length, drop}
 use borrow.Author.Tests.{le-leb, leb-true, ltb-false, eqb-true, not-false}
 use Rattle.words.proofs.Bools.{and-left, and-right, or-no-left, or-no-right}
-use Rattle.model.specs.Lists.{all, bytes, same, isEmpty}
+use Rattle.model.specs.Lists.{all, any, bytes, same, isEmpty}
 use Rattle.model.specs.Limits.{keysymLimit, smallDetailLimit}
 use Rattle.model.specs.Numbers.{eventOrder}
 use Rattle.model.specs.Bytes.{inRange, isCode, byteAt, isDigit}
 use Rattle.model.specs.Codes.{takesCount, isKey, isButton, motionNotify, hasMode, mappingNotify, hasAtom}
 use Rattle.model.specs.Names.{Entry, firstMeaning, protocolEntries, synonymEntries, abbreviationEntries, typeEntries, typeNamed}
 use Rattle.model.specs.Details.{digitsFrom, withinLimit, numberIn, keysymEntries, startsHexadecimal, keyDetail, buttonEntries, motionEntries, modeEntries, requestEntries, leadingZero, smallNumber, nameOrNumber, detailNamed}
-use Rattle.model.specs.Events.{Count, Written, WrittenEvent, event, key}
-use Rattle.model.specs.Modifiers.{bitIf, mask, setMask, clearMask, asksSet, asksClear}
-use Rattle.model.specs.Judging.{fixes, detailOf, readValue, keptDetail, isOneDigit, countBad, countValue, detailTooLarge, isUnknown, isOutOfRange, isUnbuilt, isListNotTaken, isColonMisplaced, keptEvent, isImpossible, eventNumber, judgedAs, judgedWritten, keyPressOf, judgedMark, judged}
+use Rattle.model.specs.Events.{Modifier, name, keysym, ModifierList, Count, Written, WrittenEvent, event, key}
+use Rattle.model.specs.Modifiers.{bitIf, mask, modifiersOf, listsClear, setMask, clearMask, asksSet, asksClear}
+use Rattle.model.specs.Named.{listsForm, addsForm, namesMask, withRead, keysymsFrom, keysymsOf, isCrowded, hasNames}
+use Rattle.model.specs.Judging.{fixes, detailOf, readValue, keptDetail, isOneDigit, countBad, countValue, anyTooLarge, keptClear, detailTooLarge, isUnknown, isOutOfRange, isUnbuilt, isListNotTaken, isColonMisplaced, keptEvent, isImpossible, eventNumber, judgedAs, judgedWritten, keyPressOf, judgedMark, judged}
 use Rattle.model.specs.declared.scan.KeyMark.{KeyMark}
 use Rattle.model.specs.declared.events.Detail.{Detail}
+use Rattle.model.specs.declared.names.Added.{Added}
 use Rattle.model.specs.declared.names.EventType.{EventType}
 use Rattle.model.specs.declared.names.TypeName.{TypeName}
 use Rattle.model.specs.declared.names.DetailRead.{DetailRead}
 use Rattle.model.specs.declared.answers.Judged.{Judged}
 use Rattle.tables.specs.Layout.{valueOf}
-use Rattle.tables.specs.Fitting.{eventInRange}
+use Rattle.tables.specs.Fitting.{eventInRange, keysymsInRange}
 use Rattle.tables.proofs.Positions.{cond-both, Small}
 use Rattle.tables.proofs.EventWords.{facts-range}
-use Rattle.tables.proofs.EventsRead.{WrittenSmall}
+use Rattle.tables.proofs.KeysymRange.{Rises, with-rises, rises-range}
+use Rattle.tables.proofs.EventsRead.{WrittenSmall, ModifiersSmall}
 
 -- ---- Names
 
@@ -118,6 +121,12 @@ detail-pass code word s =
     (λ _. named-pass requestEntries word refl)
     (λ _. cond-both Pass (hasAtom code) DetailRead.NotBuilt DetailRead.Unknown (λ _. refl) (λ _. refl))))))
 
+read-rises : (tilde : Bool) (r : DetailRead) (ss : List ℕ) → Pass r → Rises 0 ss → Rises 0 (withRead tilde r ss)
+read-rises tilde (DetailRead.Value v) ss e r = let h = leb-true v 0x1FFFFFFF e in with-rises tilde 0 v ss (omega arith) (omega arith) r
+read-rises tilde DetailRead.Unknown ss e r = r
+read-rises tilde DetailRead.TooLarge ss e r = r
+read-rises tilde DetailRead.NotBuilt ss e r = r
+
 read-value : (r : DetailRead) → Pass r → valueOf (readValue r) ≤ 0x1FFFFFFF
 read-value (DetailRead.Value v) e = leb-true v 0x1FFFFFFF e
 read-value DetailRead.Unknown e = omega arith
@@ -141,6 +150,31 @@ pub mask-below : (test : ℕ → Bool) → mask test < 8192
 unfolding mask
 mask-below test =
     omega (arith, bit-le (test 0) 0, bit-le (test 1) 1, bit-le (test 2) 2, bit-le (test 3) 3, bit-le (test 4) 4, bit-le (test 5) 5, bit-le (test 6) 6, bit-le (test 7) 7, bit-le (test 8) 8, bit-le (test 9) 9, bit-le (test 10) 10, bit-le (test 11) 11, bit-le (test 12) 12)
+
+pub names-below : (list : ModifierList) (added : Added) → namesMask list added < 256
+unfolding namesMask
+names-below list added =
+    let test : ℕ → Bool = λ k. any (listsForm k) (modifiersOf list) || addsForm added k in
+    omega (arith, bit-le (test 0) 0, bit-le (test 1) 1, bit-le (test 2) 2, bit-le (test 3) 3, bit-le (test 4) 4, bit-le (test 5) 5, bit-le (test 6) 6, bit-le (test 7) 7)
+
+clear-below : (list : ModifierList) (added : Added) → keptClear list added < 8192
+unfolding keptClear clearMask
+clear-below list added =
+    cond-both (λ (n : ℕ). n < 8192) (hasNames list added) (mask (listsClear list)) (clearMask list) (λ _. mask-below (listsClear list)) (λ _. mask-below (asksClear list))
+
+-- ---- Keysyms after `@`
+
+-- those of modifiers are marked, and rise
+keysyms-rise : (ss : List ℕ) (ms : List Modifier) → ModifiersSmall ms → Rises 0 ss → Rises 0 (keysymsFrom ss ms)
+unfolding keysymsFrom
+keysyms-rise ss [] a r = r
+keysyms-rise ss (name tilde word ∷ ms) a r = keysyms-rise ss ms (a .1) r
+keysyms-rise ss (keysym tilde word ∷ ms) a r =
+    keysyms-rise (withRead tilde (keyDetail word) ss) ms (a .1) (read-rises tilde (keyDetail word) ss (key-pass word (a .0)) r)
+
+list-rises : (list : ModifierList) → ModifiersSmall (modifiersOf list) → Rises 0 (keysymsOf list)
+unfolding keysymsOf
+list-rises list a = keysyms-rise [] (modifiersOf list) a tt
 
 -- ---- Counts
 
@@ -170,11 +204,11 @@ order-range true r b l c i e = absurd (omega arith)
 order-range false true b l c i e = absurd (omega arith)
 order-range false false b l c i e = refl
 
-kept-range : (w : Written) (ty : EventType) → typeTest (TypeName.Known ty) ≡ true → Small (w .detail) → eventNumber w ty ≡ 0 → eventInRange (keptEvent w ty) ≡ true
-unfolding keptEvent eventNumber setMask clearMask
-kept-range w ty t s e =
-    let out = order-range (isUnknown w ty) (isOutOfRange w ty) (isUnbuilt w ty) (isListNotTaken w ty) (isColonMisplaced w ty) (isImpossible (keptEvent w ty)) e in
-    let c : CountFacts (ty .code) (countValue (w .count)) = count-facts (ty .code) (w .count) (or-no-left (countBad (ty .code) (w .count)) (detailTooLarge ty (w .detail)) out) in
+kept-range : (w : Written) (ty : EventType) → typeTest (TypeName.Known ty) ≡ true → Small (w .detail) → ModifiersSmall (modifiersOf (w .list)) → eventNumber w ty ≡ 0 → eventInRange (keptEvent w ty) ≡ true
+unfolding keptEvent eventNumber setMask
+kept-range w ty t s m e =
+    let out = order-range (isUnknown w ty) (isOutOfRange w ty) (isUnbuilt w ty) (isListNotTaken w ty) (isColonMisplaced w ty) (isImpossible w ty) e in
+    let c : CountFacts (ty .code) (countValue (w .count)) = count-facts (ty .code) (w .count) (or-no-right (anyTooLarge (w .list)) (countBad (ty .code) (w .count)) (or-no-left (anyTooLarge (w .list) || countBad (ty .code) (w .count)) (detailTooLarge ty (w .detail)) out)) in
     let k = and-left (leb 2 (ty .code) && leb (ty .code) 34) (leb (valueOf (ty .detail)) 0x1FFFFFFF) t in
     facts-range (keptEvent w ty)
     (record {
@@ -184,23 +218,29 @@ kept-range w ty t s e =
       countHigh = c .high;
       counted = c .counted;
       setBelow = mask-below (asksSet (w .list) (ty .added));
-      clearBelow = mask-below (asksClear (w .list));
+      clearBelow = clear-below (w .list) (ty .added);
       detail = kept-detail ty (w .detail) (leb-true (valueOf (ty .detail)) 0x1FFFFFFF (and-right (leb 2 (ty .code) && leb (ty .code) 34) (leb (valueOf (ty .detail)) 0x1FFFFFFF) t)) s;
+      namesBelow = names-below (w .list) (ty .added);
+      keysyms = rises-range (keysymsOf (w .list)) (list-rises (w .list) m);
     })
 
 abbrev pub InRange : Judged → Type 0
 InRange (Judged.Keep e) = eventInRange e ≡ true
+InRange Judged.Crowded = Unit
 InRange (Judged.Refuse n) = Unit
 
-as-range : (w : Written) (t : TypeName) → typeTest t ≡ true → Small (w .detail) → InRange (judgedAs w t)
-as-range w (TypeName.Known ty) t s =
-    cond-both InRange (eqb (eventNumber w ty) 0) (Judged.Keep (keptEvent w ty)) (Judged.Refuse (eventNumber w ty))
-    (λ e. kept-range w ty t s (eqb-true (eventNumber w ty) 0 e)) (λ _. tt)
-as-range w TypeName.Unknown t s = tt
+as-range : (w : Written) (t : TypeName) → typeTest t ≡ true → Small (w .detail) → ModifiersSmall (modifiersOf (w .list)) → InRange (judgedAs w t)
+as-range w (TypeName.Known ty) t s m =
+    cond-both InRange (eqb (eventNumber w ty) 0) (cond (isCrowded (w .list)) Judged.Crowded (Judged.Keep (keptEvent w ty))) (Judged.Refuse (eventNumber w ty))
+    (λ e. cond-both InRange (isCrowded (w .list)) Judged.Crowded (Judged.Keep (keptEvent w ty)) (λ _. tt)
+    (λ _. kept-range w ty t s m (eqb-true (eventNumber w ty) 0 e)))
+    (λ _. tt)
+as-range w TypeName.Unknown t s m = tt
 
-press-range : (set byte : ℕ) → set < 8192 → byte < 256 → eventInRange (keyPressOf set byte) ≡ true
-press-range set byte h b =
-    facts-range (keyPressOf set byte)
+press-range : (set names byte : ℕ) → set < 8192 → names < 256 → byte < 256 → eventInRange (keyPressOf set names byte) ≡ true
+unfolding keysymsInRange
+press-range set names byte h n b =
+    facts-range (keyPressOf set names byte)
     (record {
       codeLow = omega arith;
       codeHigh = omega arith;
@@ -210,15 +250,17 @@ press-range set byte h b =
       setBelow = h;
       clearBelow = omega arith;
       detail = omega arith;
+      namesBelow = n;
+      keysyms = refl;
     })
 
 mark-range : (m : KeyMark) (byte : ℕ) → byte < 256 → InRange (judgedMark m byte)
-mark-range KeyMark.Plain byte b = press-range 0 byte (omega arith) b
-mark-range KeyMark.Control byte b = press-range 4 byte (omega arith) b
-mark-range KeyMark.Quoted byte b = press-range 0 byte (omega arith) b
-mark-range KeyMark.Meta byte b = tt
+mark-range KeyMark.Plain byte b = press-range 0 0 byte (omega arith) (omega arith) b
+mark-range KeyMark.Control byte b = press-range 4 0 byte (omega arith) (omega arith) b
+mark-range KeyMark.Quoted byte b = press-range 0 0 byte (omega arith) (omega arith) b
+mark-range KeyMark.Meta byte b = press-range 0 1 byte (omega arith) (omega arith) b
 
 pub judged-range : (e : WrittenEvent) → WrittenSmall e → InRange (judged e)
 unfolding judged judgedWritten
-judged-range (event w) s = as-range w (typeNamed (w .typeName)) (type-pass (w .typeName)) s
+judged-range (event w) s = as-range w (typeNamed (w .typeName)) (type-pass (w .typeName)) (s .0) (s .1)
 judged-range (key k) s = mark-range (k .mark) (k .byte) s

@@ -10,6 +10,7 @@ pub mod Theorems
 pub mod Written
 pub mod Positions
 pub mod CallSpans
+pub mod KeysymRange
 pub mod EventsRead
 pub mod JudgedRange
 pub mod CompiledFits

@@ -83,9 +83,9 @@ header-empty = refl
 abbrev afterHeader : List ℕ
 afterHeader = drop 1 capacities
 
-words-empty : padded 8 (0 ∷ 0 ∷ 0 ∷ 0 ∷ 0 ∷ 0 ∷ 0 ∷ 0 ∷ []) ++ joinedSections afterHeader (map (λ c. []) afterHeader) ≡ zeros 2952
-words-empty = rw (header-empty, joined-empty afterHeader) (zeros-add 8 2944)
+words-empty : padded 8 (0 ∷ 0 ∷ 0 ∷ 0 ∷ 0 ∷ 0 ∷ 0 ∷ 0 ∷ []) ++ joinedSections afterHeader (map (λ c. []) afterHeader) ≡ zeros 5000
+words-empty = rw (header-empty, joined-empty afterHeader) (zeros-add 8 4992)
 
 pub encode-empty : EncodeEmpty
 unfolding encode image entriesOf sectionsOf columns headerOf flat joinedSections
-encode-empty = ap wordBytes words-empty ∙ bytes-zeros 2952
+encode-empty = ap wordBytes words-empty ∙ bytes-zeros 5000

@@ -12,7 +12,7 @@ use Rattle.model.specs.declared.scan.Span.{Span}
 use Rattle.model.specs.declared.events.KeptEvent.{KeptEvent}
 use Rattle.model.specs.declared.events.Directive.{Directive}
 use Rattle.tables.specs.Layout.{Entries, joinedSections, offset, columns, forEach, eventFields, callFields, parameterFields, capacities, sectionsOf, image, flag, directiveWord, codesAt, marksAt, productionCallsAt, parameterStartsAt, tableLength}
-use Rattle.tables.specs.Writing.{putTest, putDetail, putEvent, putCall, putParameter, putProduction, putTexts, putCounts, noEntries, withEvent, withCall, withParameter, withProduction, withHeader}
+use Rattle.tables.specs.Writing.{putTest, putDetail, putFirstTwo, putLastTwo, putKeysyms, putEvent, putCall, putParameter, putProduction, putTexts, putCounts, noEntries, withEvent, withCall, withParameter, withProduction, withHeader}
 use Rattle.tables.proofs.Sections.{Sized, none, more, length-joined, append-joined, offset-below}
 use Rattle.tables.proofs.Columns.{putAll, reach}
 use Rattle.tables.proofs.Images.{Room, sized, row-put, beforeEvents, beforeCalls, beforeParameters, events-there, calls-there, parameters-there, events-start, calls-start, parameters-start}
@@ -46,7 +46,7 @@ put-section ss rest j n w s e h =
 module _ (x : Entries) (rest : List ℕ) (room : Room x) where
   pub put-event : (e : KeptEvent) → length (x .events) < 256
       → putEvent (image x ++ rest) (length (x .events)) e ≡ image (withEvent x e) ++ rest
-  unfolding putEvent putTest putDetail putAll reach image
+  unfolding putEvent putTest putDetail putKeysyms putFirstTwo putLastTwo putAll reach image
   put-event e h =
       row-put x rest room eventFields 256 (x .events) (forEach callFields 128 ++ forEach parameterFields 256) (columns callFields (x .calls) ++ columns parameterFields (x .parameters)) (beforeEvents x) codesAt (events-there x) (events-start x room) (omega arith) e h
       ∙ ap (λ (W : List ℕ). wordBytes W ++ rest) (sym (events-there (withEvent x e)))
@@ -141,7 +141,7 @@ module _ (x : Entries) (rest : List ℕ) (room : Room x) where
 pub cleared-holds : (l : List ℕ) → cleared tableLength l ≡ image noEntries ++ drop tableLength l
 unfolding cleared image sectionsOf columns
 cleared-holds l =
-    ap (λ (a : List ℕ). a ++ drop tableLength l) (sym (ap wordBytes (joined-empty capacities) ∙ bytes-zeros 2952))
+    ap (λ (a : List ℕ). a ++ drop tableLength l) (sym (ap wordBytes (joined-empty capacities) ∙ bytes-zeros 5000))
 
 pub no-room : Room noEntries
 no-room =

@@ -197,7 +197,8 @@ fn joined(low: u16, high: u16) -> u32
     low as u32 + 65536 * (high as u32)
 }
 
-fn keysyms_at(l: &[u8], i: usize) -> Keysyms
+// The keysyms after `@` of an event.
+pub fn keysyms_at(l: &[u8], i: usize) -> Keysyms
     requires { ⌜ (tableLength ≤ length (now l)) × (i < 256) ⌝ }
     ensures { λ r. ⌜ r ≡ keysymsEntry (now (l .entry)) i ⌝ }
 {

@@ -104,7 +104,7 @@ fn ended(seen: bool) -> Passed
 // the first of them is passed over at once.
 fn scan(
     table: &[u8],
-    map: &[u8],
+    maps: &[u8],
     limit: u32,
     events: &[u8],
     from: usize,
@@ -112,8 +112,8 @@ fn scan(
     one: Sought,
     reach: Reach,
 ) -> Passed
-    requires { ⌜ WalkReady (now table) (mapNumbers (now map)) (now events) to × (from < to) × (one ≡ soughtOf (mapNumbers (now map)) (getD (slotsOf (now events)) from zeroEvent)) × Outside (now table) (mapNumbers (now map)) (drop from (take to (slotsOf (now events)))) (reach .low) (reach .high) ⌝ }
-    ensures { λ r. ⌜ r ≡ passed (decode (now (table .entry))) (lentSetting (now (map .entry)) limit) (drop from (take to (slotsOf (now (events .entry))))) ⌝ }
+    requires { ⌜ WalkReady (now table) (now maps) (now events) to × (from < to) × (one ≡ soughtOf (mapNumbers (now maps)) (getD (slotsOf (now events)) from zeroEvent)) × Outside (now table) (mapNumbers (now maps)) (drop from (take to (slotsOf (now events)))) (reach .low) (reach .high) ⌝ }
+    ensures { λ r. ⌜ r ≡ passed (decode (now (table .entry))) (lentSetting (now (maps .entry)) limit) (drop from (take to (slotsOf (now (events .entry))))) ⌝ }
 {
     let n = tables::read::production_count(table);
     let spot = skip(table, reach.low as usize);
@@ -127,7 +127,7 @@ fn scan(
         }
         let size = tables::read::production_events(table, p);
         if filter::seems_one(table, at, one) {
-            match follow::follow(table, map, limit, at, size, events, from, to) {
+            match follow::follow(table, maps, limit, at, size, events, from, to) {
                 Followed::Whole => {
                     return Passed::Chosen(p);
                 }
@@ -152,9 +152,9 @@ fn scan(
 // Where the productions begin that may have the stretch as a prefix. Most productions are on keys, and most keys have none: for
 // a key event every event of the table is tried at once, by its code, its detail and the modifiers that it asks set or, where
 // the stretch goes on, by the codes and details of two events.
-fn reach_of(table: &[u8], map: &[u8], events: &[u8], from: usize, to: usize, one: Sought) -> Reach
-    requires { ⌜ WalkReady (now table) (mapNumbers (now map)) (now events) to × (from < to) × (one ≡ soughtOf (mapNumbers (now map)) (getD (slotsOf (now events)) from zeroEvent)) ⌝ }
-    ensures { λ r. ⌜ Outside (now (table .entry)) (mapNumbers (now (map .entry))) (drop from (take to (slotsOf (now (events .entry))))) (r .low) (r .high) ⌝ }
+fn reach_of(table: &[u8], maps: &[u8], events: &[u8], from: usize, to: usize, one: Sought) -> Reach
+    requires { ⌜ WalkReady (now table) (now maps) (now events) to × (from < to) × (one ≡ soughtOf (mapNumbers (now maps)) (getD (slotsOf (now events)) from zeroEvent)) ⌝ }
+    ensures { λ r. ⌜ Outside (now (table .entry)) (mapNumbers (now (maps .entry))) (drop from (take to (slotsOf (now (events .entry))))) (r .low) (r .high) ⌝ }
 {
     if 3 < one.code {
         return filter::reach_of_code(table, one);
@@ -162,35 +162,35 @@ fn reach_of(table: &[u8], map: &[u8], events: &[u8], from: usize, to: usize, one
     if from + 1 == to {
         return filter::reach_alone(table, one);
     }
-    let two = filter::sought_of(map, slots::event_at(events, from + 1));
+    let two = filter::sought_of(maps, slots::event_at(events, from + 1));
     filter::reach_paired(table, one, two)
 }
 
 // Events from..to against every production, in order.
-pub fn pass(table: &[u8], map: &[u8], limit: u32, events: &[u8], from: usize, to: usize) -> Passed
-    requires { ⌜ WalkReady (now table) (mapNumbers (now map)) (now events) to × (from < to) ⌝ }
-    ensures { λ r. ⌜ r ≡ passed (decode (now (table .entry))) (lentSetting (now (map .entry)) limit) (drop from (take to (slotsOf (now (events .entry))))) ⌝ }
+pub fn pass(table: &[u8], maps: &[u8], limit: u32, events: &[u8], from: usize, to: usize) -> Passed
+    requires { ⌜ WalkReady (now table) (now maps) (now events) to × (from < to) ⌝ }
+    ensures { λ r. ⌜ r ≡ passed (decode (now (table .entry))) (lentSetting (now (maps .entry)) limit) (drop from (take to (slotsOf (now (events .entry))))) ⌝ }
 {
-    let one = filter::sought_of(map, slots::event_at(events, from));
-    let reach = reach_of(table, map, events, from, to, one);
-    scan(table, map, limit, events, from, to, one, reach)
+    let one = filter::sought_of(maps, slots::event_at(events, from));
+    let reach = reach_of(table, maps, events, from, to, one);
+    scan(table, maps, limit, events, from, to, one, reach)
 }
 
 // The smallest start from `from` on at which the events up to `to` read as a prefix, or `to`.
 pub fn first_start(
     table: &[u8],
-    map: &[u8],
+    maps: &[u8],
     limit: u32,
     events: &[u8],
     from: usize,
     to: usize,
 ) -> Start
-    requires { ⌜ WalkReady (now table) (mapNumbers (now map)) (now events) to × (from ≤ to) ⌝ }
-    ensures { λ r. ⌜ (r .at ≤ to) × (drop (r .at) (take to (slotsOf (now (events .entry)))) ≡ longestEnd (readingOf (decode (now (table .entry))) (lentSetting (now (map .entry)) limit)) (drop from (take to (slotsOf (now (events .entry)))))) × (r .found ≡ passedIn (decode (now (table .entry))) (lentSetting (now (map .entry)) limit) (drop (r .at) (take to (slotsOf (now (events .entry)))))) ⌝ }
+    requires { ⌜ WalkReady (now table) (now maps) (now events) to × (from ≤ to) ⌝ }
+    ensures { λ r. ⌜ (r .at ≤ to) × (drop (r .at) (take to (slotsOf (now (events .entry)))) ≡ longestEnd (readingOf (decode (now (table .entry))) (lentSetting (now (maps .entry)) limit)) (drop from (take to (slotsOf (now (events .entry)))))) × (r .found ≡ passedIn (decode (now (table .entry))) (lentSetting (now (maps .entry)) limit) (drop (r .at) (take to (slotsOf (now (events .entry)))))) ⌝ }
 {
     let mut at = from;
     while at < to {
-        match pass(table, map, limit, events, at, to) {
+        match pass(table, maps, limit, events, at, to) {
             Passed::No => {
                 at += 1;
             }

@@ -21,7 +21,7 @@ returns c =
     let p = c .before .pair-at in
     c .pair-matches .ensures
     ∙ ap (λ (q : Pair). pairAsked (a .set) (a .clear) (a .colon) (q .first) (q .second) (a .x .state) (a .value)) (p .ensures)
-    ∙ key-detail (mapNumbers (now (a .map))) (a .set) (a .clear) (a .colon) (a .value) (a .x) (c .before .before .if1 .taken)
+    ∙ key-detail (mapNumbers (now (a .maps))) (a .set) (a .clear) (a .colon) (a .value) (a .x) (c .before .before .if1 .taken)
 
 cast-result : tie.Need-cast-result
 cast-result c = search needs
@@ -29,7 +29,7 @@ cast-result c = search needs
 returns-2 : tie.Need-returns-2
 returns-2 c =
     let a = c .before .before .before .before .args in
-    other-detail (mapNumbers (now (a .map))) (a .set) (a .clear) (a .colon) (a .value) (a .x) (c .before .if1 .left)
+    other-detail (mapNumbers (now (a .maps))) (a .set) (a .clear) (a .colon) (a .value) (a .x) (c .before .if1 .left)
 
 pub detail-met-spec : {M : Type 1} → statement M
 detail-met-spec =

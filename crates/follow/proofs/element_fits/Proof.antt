@@ -45,7 +45,7 @@ element-code-requires c κs =
 returns : tie.Need-returns
 returns c =
     let a = c .before .before .before .before .before .before .before .args in
-    sym (fits-other (lentSetting (now (a .map)) (a .limit)) (a .before) (eventEntry (now (a .table)) (a .i)) (a .k) (a .x) (λ h. c .if1 .taken (code-is (c .before .before) ∙ h)))
+    sym (fits-other (lentSetting (now (a .maps)) (a .limit)) (a .before) (eventEntry (now (a .table)) (a .i)) (a .k) (a .x) (λ h. c .if1 .taken (code-is (c .before .before) ∙ h)))
 
 event-meets-requires : tie.Need-event-meets-requires
 event-meets-requires c κs = search needs
@@ -53,7 +53,7 @@ event-meets-requires c κs = search needs
 returns-2 : tie.Need-returns-2
 returns-2 c =
     let a = c .before .before .before .before .before .before .before .before .before .args in
-    sym (fits-not (lentSetting (now (a .map)) (a .limit)) (a .before) (eventEntry (now (a .table)) (a .i)) (a .k) (a .x)
+    sym (fits-not (lentSetting (now (a .maps)) (a .limit)) (a .before) (eventEntry (now (a .table)) (a .i)) (a .k) (a .x)
     (sym (code-is (c .before .before .before .before)) ∙ c .before .before .if1 .left) (sym (c .before .event-meets .ensures (a .limit)) ∙ not-true _ (c .if2 .taken)))
 
 is-timed-requires : tie.Need-is-timed-requires
@@ -66,7 +66,7 @@ is-timed-requires c κs =
 returns-3 : tie.Need-returns-3
 returns-3 c =
     let a = c .before .before .before .before .before .before .before .before .before .before .before .args in
-    sym (fits-untimed (lentSetting (now (a .map)) (a .limit)) (a .before) (eventEntry (now (a .table)) (a .i)) (a .k) (a .x)
+    sym (fits-untimed (lentSetting (now (a .maps)) (a .limit)) (a .before) (eventEntry (now (a .table)) (a .i)) (a .k) (a .x)
     (sym (code-is (c .before .before .before .before .before .before)) ∙ c .before .before .before .before .if1 .left) (sym (c .before .before .before .event-meets .ensures (a .limit)) ∙ not-false _ (c .before .before .if2 .left))
     (sym (timed-is (c .before)) ∙ not-true _ (c .if3 .taken)))
 
@@ -77,7 +77,7 @@ returns-4 : tie.Need-returns-4
 returns-4 c =
     let a = c .before .before .before .before .before .before .before .before .before .before .before .before .args in
     c .quick .ensures
-    ∙ sym (fits-timed (lentSetting (now (a .map)) (a .limit)) (a .before) (eventEntry (now (a .table)) (a .i)) (a .k) (a .x)
+    ∙ sym (fits-timed (lentSetting (now (a .maps)) (a .limit)) (a .before) (eventEntry (now (a .table)) (a .i)) (a .k) (a .x)
     (sym (code-is (c .before .before .before .before .before .before .before)) ∙ c .before .before .before .before .before .if1 .left) (sym (c .before .before .before .before .event-meets .ensures (a .limit)) ∙ not-false _ (c .before .before .before .if2 .left))
     (sym (timed-is (c .before .before)) ∙ not-false _ (c .before .if3 .left)))
 

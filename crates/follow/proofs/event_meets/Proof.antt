@@ -63,7 +63,7 @@ state-meets-requires c κs =
 returns : tie.Need-returns
 returns c limit =
     let a = c .before .before .before .before .before .before .before .before .args in
-    sym (meets-not (lentSetting (now (a .map)) limit) (now (a .table)) (a .i) (a .x) (c .before .before .before .before .before .before .before .before .pre .1 .1)
+    sym (meets-not (lentSetting (now (a .maps)) limit) (now (a .table)) (a .i) (a .x) (c .before .before .before .before .before .before .before .before .pre .1 .1)
     (sym (state-met c.before) ∙ not-true _ (c .if1 .taken)))
 
 is-flag-requires-2 : tie.Need-is-flag-requires-2
@@ -72,7 +72,7 @@ is-flag-requires-2 c κs = search needs
 returns-2 : tie.Need-returns-2
 returns-2 c limit =
     let a = c .before .before .before .before .before .before .before .before .before .before .args in
-    sym (meets-any (lentSetting (now (a .map)) limit) (now (a .table)) (a .i) (a .x) (c .before .before .before .before .before .before .before .before .before .before .pre .1 .1)
+    sym (meets-any (lentSetting (now (a .maps)) limit) (now (a .table)) (a .i) (a .x) (c .before .before .before .before .before .before .before .before .before .before .pre .1 .1)
     (sym (state-met (c .before .before .before)) ∙ not-false _ (c .before .before .if1 .left))
     (sym (c .before .is-flag2 .ensures ∙ ap (isFlag 4) (c .before .before .before .before .before .flags-at .ensures)) ∙ not-true _ (c .if2 .taken)))
 
@@ -94,9 +94,9 @@ returns-3 c limit =
     let l = now (a .table) in
     let f = c .before .before .before .before .before .before .before .before .flags-at .ensures in
     c .detail-met .ensures
-    ∙ asked (mapNumbers (now (a .map))) (a .x) (c .before .before .before .before .before .before .before .before .before .before .set-at .ensures) (c .before .before .before .before .before .before .before .before .before .clear-at .ensures)
+    ∙ asked (mapNumbers (now (a .maps))) (a .x) (c .before .before .before .before .before .before .before .before .before .before .set-at .ensures) (c .before .before .before .before .before .before .before .before .before .clear-at .ensures)
     (c .before .before .is-flag3 .ensures ∙ ap (isFlag 1) f) (c .before .value-at .ensures)
-    ∙ meets-detail (lentSetting (now (a .map)) limit) l (a .i) (a .x) (c .before .before .before .before .before .before .before .before .before .before .before .before .before .pre .1 .1)
+    ∙ meets-detail (lentSetting (now (a .maps)) limit) l (a .i) (a .x) (c .before .before .before .before .before .before .before .before .before .before .before .before .before .pre .1 .1)
     (sym (state-met (c .before .before .before .before .before .before)) ∙ not-false _ (c .before .before .before .before .before .if1 .left))
     (sym (c .before .before .before .before .is-flag2 .ensures ∙ ap (isFlag 4) f) ∙ not-false _ (c .before .before .before .if2 .left))
 

@@ -17,10 +17,10 @@ use Rattle.follow.proofs.follow.Statement.{statement}
 use Rattle.follow.proofs.follow.Tie as tie
 
 abbrev Inv-loop : tie.InvT-loop
-Inv-loop table map limit first n events from to last i₀ k₀ j₀ i k j = Walks (lentSetting map limit) table first n (slotsOf events) from to i k j
+Inv-loop table maps limit first n events from to last i₀ k₀ j₀ i k j = Walks (lentSetting maps limit) table first n (slotsOf events) from to i k j
 
 abbrev μ-loop : tie.MeasureT-loop
-μ-loop table map limit first n events from to last i₀ k₀ j₀ i k j = to - j
+μ-loop table maps limit first n events from to last i₀ k₀ j₀ i k j = to - j
 
 add-last : tie.Need-add-last Inv-loop μ-loop
 add-last c =
@@ -31,13 +31,13 @@ loop-holds : tie.Need-loop-holds Inv-loop μ-loop
 loop-holds c =
     let a = c .before .before .before .args in
     let l : length (slotsOf (now (a .events))) ≡ 25 = length-slots (now (a .events)) in
-    walks-start (lentSetting (now (a .map)) (a .limit)) (now (a .table)) (a .first) (a .n) (slotsOf (now (a .events))) (a .from) (a .to) l (c .before .before .before .pre .1)
+    walks-start (lentSetting (now (a .maps)) (a .limit)) (now (a .table)) (a .first) (a .n) (slotsOf (now (a .events))) (a .from) (a .to) l (c .before .before .before .pre .1)
 
 returns : tie.Need-returns Inv-loop μ-loop
 returns c =
     let a = c .before .before .before .before .before .before .args in
     let v = c .before .before .loop in
-    sym (walks-over (lentSetting (now (a .map)) (a .limit)) (now (a .table)) (a .first) (a .n) (slotsOf (now (a .events))) (a .from) (a .to) (c .before .before .before .before .before .before .pre .0 .room) (v .i) (v .k) (v .j) (v .inv) (c .if1 .taken) (c .before .loop-test .taken))
+    sym (walks-over (lentSetting (now (a .maps)) (a .limit)) (now (a .table)) (a .first) (a .n) (slotsOf (now (a .events))) (a .from) (a .to) (c .before .before .before .before .before .before .pre .0 .room) (v .i) (v .k) (v .j) (v .inv) (c .if1 .taken) (c .before .loop-test .taken))
 
 event-at-requires : tie.Need-event-at-requires Inv-loop μ-loop
 event-at-requires c κs = omega (arith, c .before .before .before .before .before .before .pre .0 .room, c .before .before .before .before .before .before .pre .0 .long, c .before .loop-test .taken)
@@ -57,7 +57,7 @@ read-is c =
 -- whether it fits, by the slots
 fit-is : (c : tie.After-element-fits Inv-loop μ-loop)
     → c .element-fits .result
-    ≡ fitsAfter (lentSetting (now (c .before .before .before .before .before .before .before .before .before .before .args .map)) (c .before .before .before .before .before .before .before .before .before .before .args .limit))
+    ≡ fitsAfter (lentSetting (now (c .before .before .before .before .before .before .before .before .before .before .args .maps)) (c .before .before .before .before .before .before .before .before .before .before .args .limit))
     (getD (slotsOf (now (c .before .before .before .before .before .before .before .before .before .before .args .events))) (c .before .before .two-before .result) zeroEvent .time)
     (elementOf (eventEntry (now (c .before .before .before .before .before .before .before .before .before .before .args .table)) (c .before .before .before .before .before .before .loop .i)) (c .before .before .before .before .before .before .loop .k))
     (getD (slotsOf (now (c .before .before .before .before .before .before .before .before .before .before .args .events))) (c .before .before .before .before .before .before .loop .j) zeroEvent)
@@ -65,7 +65,7 @@ fit-is c =
     let a = c .before .before .before .before .before .before .before .before .before .before .args in
     let m : c .before .before .two-before .result < 25 = omega (arith, c .before .before .before .before .before .before .before .before .before .before .pre .0 .room, c .before .before .before .before .before .loop-test .taken, c .before .before .two-before .ensures .0) in
     c .element-fits .ensures
-    ∙ ap₂ (λ (b x : Event). fitsAfter (lentSetting (now (a .map)) (a .limit)) (b .time) (elementOf (eventEntry (now (a .table)) (c .before .before .before .before .before .before .loop .i)) (c .before .before .before .before .before .before .loop .k)) x)
+    ∙ ap₂ (λ (b x : Event). fitsAfter (lentSetting (now (a .maps)) (a .limit)) (b .time) (elementOf (eventEntry (now (a .table)) (c .before .before .before .before .before .before .loop .i)) (c .before .before .before .before .before .before .loop .k)) x)
     (c .before .event-at2 .ensures ∙ in-slot (now (a .events)) (c .before .before .two-before .result) m) (read-is (c .before .before .before))
 
 element-fits-requires : tie.Need-element-fits-requires Inv-loop μ-loop
@@ -79,7 +79,7 @@ returns-2 : tie.Need-returns-2 Inv-loop μ-loop
 returns-2 c =
     let a = c .before .before .before .before .before .before .before .before .before .before .before .args in
     let v = c .before .before .before .before .before .before .before .loop in
-    sym (walks-no (lentSetting (now (a .map)) (a .limit)) (now (a .table)) (a .first) (a .n) (slotsOf (now (a .events))) (a .from) (a .to) (c .before .before .before .before .before .before .before .before .before .before .before .pre .0 .room) (v .i) (v .k) (v .j) (v .inv) (c .before .before .before .before .before .if1 .left) (c .before .before .before .before .before .before .loop-test .taken) (c .before .before .before .two-before .result) (c .before .before .before .two-before .ensures .1) (c .before .element-fits .result) (fit-is (c .before)) (not-true _ (c .if2 .taken)))
+    sym (walks-no (lentSetting (now (a .maps)) (a .limit)) (now (a .table)) (a .first) (a .n) (slotsOf (now (a .events))) (a .from) (a .to) (c .before .before .before .before .before .before .before .before .before .before .before .pre .0 .room) (v .i) (v .k) (v .j) (v .inv) (c .before .before .before .before .before .if1 .left) (c .before .before .before .before .before .before .loop-test .taken) (c .before .before .before .two-before .result) (c .before .before .before .two-before .ensures .1) (c .before .element-fits .result) (fit-is (c .before)) (not-true _ (c .if2 .taken)))
 
 add-j : tie.Need-add-j Inv-loop μ-loop
 add-j c = omega (arith, c .before .before .before .before .before .before .before .before .before .before .before .pre .0 .room)
@@ -107,7 +107,7 @@ loop-again : tie.Need-loop-again Inv-loop μ-loop
 loop-again c =
     let a = c .before .before .before .before .before .before .before .before .before .before .before .before .before .args in
     let v = c .before .before .before .before .before .before .before .before .before .loop in
-    walks-turn (lentSetting (now (a .map)) (a .limit)) (now (a .table)) (a .first) (a .n) (slotsOf (now (a .events))) (a .from) (a .to) (c .before .before .before .before .before .before .before .before .before .before .before .before .before .pre .0 .room) (v .i) (v .k) (v .j) (v .inv) (c .before .before .before .before .before .before .before .if1 .left) (c .before .before .before .before .before .before .before .before .loop-test .taken) (c .before .before .before .before .before .two-before .result) (c .before .before .before .before .before .two-before .ensures .1) (c .before .before .before .element-fits .result) (fit-is (c .before .before .before)) (not-false _ (c .before .before .if2 .left)) (c .if3 .taken ∙ c .before .size-at .ensures)
+    walks-turn (lentSetting (now (a .maps)) (a .limit)) (now (a .table)) (a .first) (a .n) (slotsOf (now (a .events))) (a .from) (a .to) (c .before .before .before .before .before .before .before .before .before .before .before .before .before .pre .0 .room) (v .i) (v .k) (v .j) (v .inv) (c .before .before .before .before .before .before .before .if1 .left) (c .before .before .before .before .before .before .before .before .loop-test .taken) (c .before .before .before .before .before .two-before .result) (c .before .before .before .before .before .two-before .ensures .1) (c .before .before .before .element-fits .result) (fit-is (c .before .before .before)) (not-false _ (c .before .before .if2 .left)) (c .if3 .taken ∙ c .before .size-at .ensures)
 
 loop-less-2 : tie.Need-loop-less-2 Inv-loop μ-loop
 loop-less-2 c = omega (arith, c .before .before .before .before .before .before .before .before .loop-test .taken)
@@ -116,19 +116,19 @@ loop-again-2 : tie.Need-loop-again-2 Inv-loop μ-loop
 loop-again-2 c =
     let a = c .before .before .before .before .before .before .before .before .before .before .before .before .before .args in
     let v = c .before .before .before .before .before .before .before .before .before .loop in
-    walks-on (lentSetting (now (a .map)) (a .limit)) (now (a .table)) (a .first) (a .n) (slotsOf (now (a .events))) (a .from) (a .to) (c .before .before .before .before .before .before .before .before .before .before .before .before .before .pre .0 .room) (v .i) (v .k) (v .j) (v .inv) (c .before .before .before .before .before .before .before .if1 .left) (c .before .before .before .before .before .before .before .before .loop-test .taken) (c .before .before .before .before .before .two-before .result) (c .before .before .before .before .before .two-before .ensures .1) (c .before .before .before .element-fits .result) (fit-is (c .before .before .before)) (not-false _ (c .before .before .if2 .left)) (λ z. c .if3 .left (z ∙ sym (c .before .size-at .ensures)))
+    walks-on (lentSetting (now (a .maps)) (a .limit)) (now (a .table)) (a .first) (a .n) (slotsOf (now (a .events))) (a .from) (a .to) (c .before .before .before .before .before .before .before .before .before .before .before .before .before .pre .0 .room) (v .i) (v .k) (v .j) (v .inv) (c .before .before .before .before .before .before .before .if1 .left) (c .before .before .before .before .before .before .before .before .loop-test .taken) (c .before .before .before .before .before .two-before .result) (c .before .before .before .before .before .two-before .ensures .1) (c .before .before .before .element-fits .result) (fit-is (c .before .before .before)) (not-false _ (c .before .before .if2 .left)) (λ z. c .if3 .left (z ∙ sym (c .before .size-at .ensures)))
 
 returns-3 : tie.Need-returns-3 Inv-loop μ-loop
 returns-3 c =
     let a = c .before .before .before .before .before .before .args in
     let v = c .before .before .loop in
-    sym (walks-prefix (lentSetting (now (a .map)) (a .limit)) (now (a .table)) (a .first) (a .n) (slotsOf (now (a .events))) (a .from) (a .to) (c .before .before .before .before .before .before .pre .0 .room) (v .i) (v .k) (v .j) (v .inv) (c .before .loop-test .left) (c .if4 .taken))
+    sym (walks-prefix (lentSetting (now (a .maps)) (a .limit)) (now (a .table)) (a .first) (a .n) (slotsOf (now (a .events))) (a .from) (a .to) (c .before .before .before .before .before .before .pre .0 .room) (v .i) (v .k) (v .j) (v .inv) (c .before .loop-test .left) (c .if4 .taken))
 
 returns-4 : tie.Need-returns-4 Inv-loop μ-loop
 returns-4 c =
     let a = c .before .before .before .before .before .before .args in
     let v = c .before .before .loop in
-    sym (walks-whole (lentSetting (now (a .map)) (a .limit)) (now (a .table)) (a .first) (a .n) (slotsOf (now (a .events))) (a .from) (a .to) (c .before .before .before .before .before .before .pre .0 .room) (v .i) (v .k) (v .j) (v .inv) (c .before .loop-test .left) (c .if4 .left))
+    sym (walks-whole (lentSetting (now (a .maps)) (a .limit)) (now (a .table)) (a .first) (a .n) (slotsOf (now (a .events))) (a .from) (a .to) (c .before .before .before .before .before .before .pre .0 .room) (v .i) (v .k) (v .j) (v .inv) (c .before .loop-test .left) (c .if4 .left))
 
 pub follow-spec : {M : Type 1} → statement M
 follow-spec =

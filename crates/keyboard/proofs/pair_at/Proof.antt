@@ -1,5 +1,5 @@
 -- `keyboard::pair_at` meets its contract.
-use Prim.Native.Nat.{ℕ, _-_, _*_, _+_, _<_}
+use Prim.Native.Nat.{ℕ, _-_, _*_, _+_, _≤_, _<_}
 use native.Mathlib.Omega.{arith}
 use mathlib.Core.Path.{_≡_, ap₂, _∙_}
 use denote.Ref.{now}
@@ -27,11 +27,11 @@ number-from-requires-2 c κs = omega (arith, map-bytes _ (c .before .before .pre
 returns : tie.Need-returns
 returns c =
     let a = c .before .before .before .args in
-    let l : length (now (a .map)) ≡ 1984 = map-bytes (now (a .map)) (c .before .before .before .pre .0) in
+    let l : 1984 ≤ length (now (a .maps)) = map-bytes (now (a .maps)) (c .before .before .before .pre .0) in
     let h : 2 * (a .keycode - 8) < 495 = omega (arith, c .before .before .before .fits .keycode .fits) in
     ap₂ (λ (p q : ℕ). record { first = p; second = q })
-    (c .before .number-from .ensures ∙ number-at (now (a .map)) l (2 * (a .keycode - 8)) (8 * (a .keycode - 8)) (omega arith) (omega arith))
-    (c .number-from2 .ensures ∙ number-at (now (a .map)) l (2 * (a .keycode - 8) + 1) (8 * (a .keycode - 8) + 4) (omega arith) (omega arith))
+    (c .before .number-from .ensures ∙ number-at (now (a .maps)) l (2 * (a .keycode - 8)) (8 * (a .keycode - 8)) (omega arith) (omega arith))
+    (c .number-from2 .ensures ∙ number-at (now (a .maps)) l (2 * (a .keycode - 8) + 1) (8 * (a .keycode - 8) + 4) (omega arith) (omega arith))
 
 pub pair-at-spec : {M : Type 1} → statement M
 pair-at-spec =

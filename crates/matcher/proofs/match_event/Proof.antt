@@ -23,9 +23,9 @@ returns : tie.Need-returns
 returns c =
     let a = c .before .before .before .before .before .before .args in
     let q : MatchCall = (record { bytes = now (a .«record»); order = a .order }) in
-    answered (now (a .table)) (lentSetting (now (a .map)) (a .limit)) (a .state) q (c .refused .result)
+    answered (now (a .table)) (lentSetting (now (a .maps)) (a .limit)) (a .state) q (c .refused .result)
     (c .refused .ensures
-    ∙ refused-first (now (a .table)) (lentSetting (now (a .map)) (a .limit)) (a .state) q (c .before .before .refusal .result) (c .before .before .refusal .ensures) (c .before .if1 .taken))
+    ∙ refused-first (now (a .table)) (lentSetting (now (a .maps)) (a .limit)) (a .state) q (c .before .before .refusal .result) (c .before .before .refusal .ensures) (c .before .if1 .taken))
 
 read-record-requires : tie.Need-read-record-requires
 read-record-requires c κs = search needs
@@ -46,34 +46,34 @@ returns-2 : tie.Need-returns-2
 returns-2 c =
     let a = c .before .before .before .before .before .before .before .before .before .before .args in
     let q : MatchCall = (record { bytes = now (a .«record»); order = a .order }) in
-    let p = past (now (a .table)) (lentSetting (now (a .map)) (a .limit)) (a .state) q (sym (c .before .before .before .before .before .before .refusal .ensures) ∙ c .before .before .before .before .before .if1 .left) in
+    let p = past (now (a .table)) (lentSetting (now (a .maps)) (a .limit)) (a .state) q (sym (c .before .before .before .before .before .before .refusal .ensures) ∙ c .before .before .before .before .before .if1 .left) in
     let r = c .before .before .before .before .read-record in
     let g = c .before .before .enum-told .given in
-    answered (now (a .table)) (lentSetting (now (a .map)) (a .limit)) (a .state) q (c .refused2 .result)
+    answered (now (a .table)) (lentSetting (now (a .maps)) (a .limit)) (a .state) q (c .refused2 .result)
     (c .refused2 .ensures
-    ∙ refused-record (now (a .table)) (lentSetting (now (a .map)) (a .limit)) (a .state) q p (g .0 .0) (sym (r .ensures .0) ∙ g .1) (c .before .number-of .result) (c .before .number-of .ensures ∙ ap recordNumber (r .ensures .0)))
+    ∙ refused-record (now (a .table)) (lentSetting (now (a .maps)) (a .limit)) (a .state) q p (g .0 .0) (sym (r .ensures .0) ∙ g .1) (c .before .number-of .result) (c .before .number-of .ensures ∙ ap recordNumber (r .ensures .0)))
 
 has-type-requires : tie.Need-has-type-requires
 has-type-requires c κs =
     let a = c .before .before .before .before .before .before .before .before .before .args in
     let q : MatchCall = (record { bytes = now (a .«record»); order = a .order }) in
-    past (now (a .table)) (lentSetting (now (a .map)) (a .limit)) (a .state) q (sym (c .before .before .before .before .before .refusal .ensures) ∙ c .before .before .before .before .if1 .left) .isWhole
+    past (now (a .table)) (lentSetting (now (a .maps)) (a .limit)) (a .state) q (sym (c .before .before .before .before .before .refusal .ensures) ∙ c .before .before .before .before .if1 .left) .isWhole
 
 returns-3 : tie.Need-returns-3
 returns-3 c =
     let a = c .before .before .before .before .before .before .before .before .before .before .before .args in
     let q : MatchCall = (record { bytes = now (a .«record»); order = a .order }) in
-    let p = past (now (a .table)) (lentSetting (now (a .map)) (a .limit)) (a .state) q (sym (c .before .before .before .before .before .before .before .refusal .ensures) ∙ c .before .before .before .before .before .before .if1 .left) in
+    let p = past (now (a .table)) (lentSetting (now (a .maps)) (a .limit)) (a .state) q (sym (c .before .before .before .before .before .before .before .refusal .ensures) ∙ c .before .before .before .before .before .before .if1 .left) in
     let g = c .before .before .before .read .given in
-    answered (now (a .table)) (lentSetting (now (a .map)) (a .limit)) (a .state) q (record { matched = Matched.Dropped; state = a .state })
-    (dropped-event (now (a .table)) (lentSetting (now (a .map)) (a .limit)) (a .state) q p (g .0 .0) (sym (c .before .before .before .before .before .read-record .ensures .0) ∙ g .1)
+    answered (now (a .table)) (lentSetting (now (a .maps)) (a .limit)) (a .state) q (record { matched = Matched.Dropped; state = a .state })
+    (dropped-event (now (a .table)) (lentSetting (now (a .maps)) (a .limit)) (a .state) q p (g .0 .0) (sym (c .before .before .before .before .before .read-record .ensures .0) ∙ g .1)
     (sym (c .before .has-type .ensures) ∙ not-true _ (c .if2 .taken)))
 
 heard-requires : tie.Need-heard-requires
 heard-requires c κs =
     let a = c .before .before .before .before .before .before .before .before .before .before .before .args in
     let q : MatchCall = (record { bytes = now (a .«record»); order = a .order }) in
-    let p = past (now (a .table)) (lentSetting (now (a .map)) (a .limit)) (a .state) q (sym (c .before .before .before .before .before .before .before .refusal .ensures) ∙ c .before .before .before .before .before .before .if1 .left) in
+    let p = past (now (a .table)) (lentSetting (now (a .maps)) (a .limit)) (a .state) q (sym (c .before .before .before .before .before .before .before .refusal .ensures) ∙ c .before .before .before .before .before .before .if1 .left) in
     let g = c .before .before .before .read .given in
     ((p .isWhole, p .mapLong), (p .stateWhole, read-ranges (now (a .«record»)) (a .order) (g .0 .0) (sym (c .before .before .before .before .before .read-record .ensures .0) ∙ g .1)))
 
@@ -81,11 +81,11 @@ returns-4 : tie.Need-returns-4
 returns-4 c =
     let a = c .before .before .before .before .before .before .before .before .before .before .before .before .args in
     let q : MatchCall = (record { bytes = now (a .«record»); order = a .order }) in
-    let p = past (now (a .table)) (lentSetting (now (a .map)) (a .limit)) (a .state) q (sym (c .before .before .before .before .before .before .before .before .refusal .ensures) ∙ c .before .before .before .before .before .before .before .if1 .left) in
+    let p = past (now (a .table)) (lentSetting (now (a .maps)) (a .limit)) (a .state) q (sym (c .before .before .before .before .before .before .before .before .refusal .ensures) ∙ c .before .before .before .before .before .before .before .if1 .left) in
     let g = c .before .before .before .before .read .given in
-    answered (now (a .table)) (lentSetting (now (a .map)) (a .limit)) (a .state) q (c .heard .result)
+    answered (now (a .table)) (lentSetting (now (a .maps)) (a .limit)) (a .state) q (c .heard .result)
     (c .heard .ensures
-    ∙ heard-event (now (a .table)) (lentSetting (now (a .map)) (a .limit)) (a .state) q p (g .0 .0) (sym (c .before .before .before .before .before .before .read-record .ensures .0) ∙ g .1)
+    ∙ heard-event (now (a .table)) (lentSetting (now (a .maps)) (a .limit)) (a .state) q p (g .0 .0) (sym (c .before .before .before .before .before .before .read-record .ensures .0) ∙ g .1)
     (sym (c .before .before .has-type .ensures) ∙ not-false _ (c .before .if2 .left)))
 
 pub match-event-spec : {M : Type 1} → statement M

@@ -14,7 +14,7 @@ returns : tie.Need-returns
 unfolding tooShort
 returns c =
     let a = c .args in
-    ap (λ (b : Bool). ltb (length (now (a .table))) tableLength || not b) (map-long (now (a .map)))
+    ap (λ (b : Bool). ltb (length (now (a .table))) tableLength || not b) (map-long (now (a .maps)))
 
 pub too-short-spec : {M : Type 1} → statement M
 too-short-spec = tie.close (tie.spec returns)

@@ -17,12 +17,12 @@ use Rattle.walk.proofs.first_start.Statement.{statement}
 use Rattle.walk.proofs.first_start.Tie as tie
 
 abbrev Inv-loop : tie.InvT-loop
-Inv-loop table map limit events from to at₀ at =
+Inv-loop table maps limit events from to at₀ at =
     (from ≤ at) × (at ≤ to)
-    × (longestEnd (readingOf (decode table) (lentSetting map limit)) (drop from (take to (slotsOf events))) ≡ longestEnd (readingOf (decode table) (lentSetting map limit)) (drop at (take to (slotsOf events))))
+    × (longestEnd (readingOf (decode table) (lentSetting maps limit)) (drop from (take to (slotsOf events))) ≡ longestEnd (readingOf (decode table) (lentSetting maps limit)) (drop at (take to (slotsOf events))))
 
 abbrev μ-loop : tie.MeasureT-loop
-μ-loop table map limit events from to at₀ at = to - at
+μ-loop table maps limit events from to at₀ at = to - at
 
 loop-holds : tie.Need-loop-holds Inv-loop μ-loop
 loop-holds c = (omega arith, c .before .before .before .pre .1, refl)
@@ -43,7 +43,7 @@ loop-again : tie.Need-loop-again Inv-loop μ-loop
 loop-again c =
     let a = c .before .before .before .before .before .before .before .before .args in
     let v = c .before .before .before .before .loop in
-    (omega arith, omega arith, v .inv .2 ∙ start-no (decode (now (a .table))) (lentSetting (now (a .map)) (a .limit)) (slotsOf (now (a .events))) (a .to) (length-slots (now (a .events))) (c .before .before .before .before .before .before .before .before .pre .0 .room) (v .at) (c .before .before .pass .result) (c .before .before .before .loop-test .taken) (c .before .before .pass .ensures) (c .enum-told .given .1))
+    (omega arith, omega arith, v .inv .2 ∙ start-no (decode (now (a .table))) (lentSetting (now (a .maps)) (a .limit)) (slotsOf (now (a .events))) (a .to) (length-slots (now (a .events))) (c .before .before .before .before .before .before .before .before .pre .0 .room) (v .at) (c .before .before .pass .result) (c .before .before .before .loop-test .taken) (c .before .before .pass .ensures) (c .enum-told .given .1))
 
 enum-told-2 : tie.Need-enum-told-2 Inv-loop μ-loop
 enum-told-2 c = search needs
@@ -54,8 +54,8 @@ returns c =
     let v = c .before .before .before .before .loop in
     let q : c .before .before .pass .result ≡ Passed.Prefix = c .enum-told2 .given .1 in (
       omega arith,
-      start-yes (decode (now (a .table))) (lentSetting (now (a .map)) (a .limit)) (slotsOf (now (a .events))) (a .to) (length-slots (now (a .events))) (c .before .before .before .before .before .before .before .before .pre .0 .room) (v .at) (c .before .before .pass .result) (c .before .before .before .loop-test .taken) (c .before .before .pass .ensures) (ap someReads q) ∙ sym (v .inv .2),
-      sym q ∙ c .before .before .pass .ensures ∙ start-in (decode (now (a .table))) (lentSetting (now (a .map)) (a .limit)) (slotsOf (now (a .events))) (a .to) (length-slots (now (a .events))) (c .before .before .before .before .before .before .before .before .pre .0 .room) (v .at) (c .before .before .before .loop-test .taken),
+      start-yes (decode (now (a .table))) (lentSetting (now (a .maps)) (a .limit)) (slotsOf (now (a .events))) (a .to) (length-slots (now (a .events))) (c .before .before .before .before .before .before .before .before .pre .0 .room) (v .at) (c .before .before .pass .result) (c .before .before .before .loop-test .taken) (c .before .before .pass .ensures) (ap someReads q) ∙ sym (v .inv .2),
+      sym q ∙ c .before .before .pass .ensures ∙ start-in (decode (now (a .table))) (lentSetting (now (a .maps)) (a .limit)) (slotsOf (now (a .events))) (a .to) (length-slots (now (a .events))) (c .before .before .before .before .before .before .before .before .pre .0 .room) (v .at) (c .before .before .before .loop-test .taken),
     )
 
 enum-known-p : tie.Need-enum-known-p Inv-loop μ-loop
@@ -67,8 +67,8 @@ returns-2 c =
     let v = c .before .before .before .before .before .loop in
     let q = c .before .p .given .1 in (
       omega arith,
-      start-yes (decode (now (a .table))) (lentSetting (now (a .map)) (a .limit)) (slotsOf (now (a .events))) (a .to) (length-slots (now (a .events))) (c .before .before .before .before .before .before .before .before .before .pre .0 .room) (v .at) (c .before .before .before .pass .result) (c .before .before .before .before .loop-test .taken) (c .before .before .before .pass .ensures) (ap someReads q) ∙ sym (v .inv .2),
-      sym q ∙ c .before .before .before .pass .ensures ∙ start-in (decode (now (a .table))) (lentSetting (now (a .map)) (a .limit)) (slotsOf (now (a .events))) (a .to) (length-slots (now (a .events))) (c .before .before .before .before .before .before .before .before .before .pre .0 .room) (v .at) (c .before .before .before .before .loop-test .taken),
+      start-yes (decode (now (a .table))) (lentSetting (now (a .maps)) (a .limit)) (slotsOf (now (a .events))) (a .to) (length-slots (now (a .events))) (c .before .before .before .before .before .before .before .before .before .pre .0 .room) (v .at) (c .before .before .before .pass .result) (c .before .before .before .before .loop-test .taken) (c .before .before .before .pass .ensures) (ap someReads q) ∙ sym (v .inv .2),
+      sym q ∙ c .before .before .before .pass .ensures ∙ start-in (decode (now (a .table))) (lentSetting (now (a .maps)) (a .limit)) (slotsOf (now (a .events))) (a .to) (length-slots (now (a .events))) (c .before .before .before .before .before .before .before .before .before .pre .0 .room) (v .at) (c .before .before .before .before .loop-test .taken),
     )
 
 returns-3 : tie.Need-returns-3 Inv-loop μ-loop
@@ -76,7 +76,7 @@ returns-3 c =
     let a = c .before .before .before .before .before .args in
     let v = c .before .loop in
     let e : v .at ≡ a .to = omega arith in
-    (omega arith, start-end (decode (now (a .table))) (lentSetting (now (a .map)) (a .limit)) (slotsOf (now (a .events))) (a .to) (length-slots (now (a .events))) (c .before .before .before .before .before .pre .0 .room) (v .at) e ∙ sym (v .inv .2), start-none (decode (now (a .table))) (lentSetting (now (a .map)) (a .limit)) (slotsOf (now (a .events))) (a .to) (length-slots (now (a .events))) (c .before .before .before .before .before .pre .0 .room) (v .at) e)
+    (omega arith, start-end (decode (now (a .table))) (lentSetting (now (a .maps)) (a .limit)) (slotsOf (now (a .events))) (a .to) (length-slots (now (a .events))) (c .before .before .before .before .before .pre .0 .room) (v .at) e ∙ sym (v .inv .2), start-none (decode (now (a .table))) (lentSetting (now (a .maps)) (a .limit)) (slotsOf (now (a .events))) (a .to) (length-slots (now (a .events))) (c .before .before .before .before .before .pre .0 .room) (v .at) e)
 
 pub first-start-spec : {M : Type 1} → statement M
 first-start-spec =

@@ -18,8 +18,8 @@ read-is c =
     c .event-at .ensures ∙ in-slot (now (c .before .before .before .before .args .events)) (c .before .before .before .before .args .from) m
 
 sought-is : (c : tie.After-sought-of)
-    → c .sought-of .result ≡ soughtOf (mapNumbers (now (c .before .before .before .before .before .args .map))) (getD (slotsOf (now (c .before .before .before .before .before .args .events))) (c .before .before .before .before .before .args .from) zeroEvent)
-sought-is c = c .sought-of .ensures ∙ ap (soughtOf (mapNumbers (now (c .before .before .before .before .before .args .map)))) (read-is (c .before))
+    → c .sought-of .result ≡ soughtOf (mapNumbers (now (c .before .before .before .before .before .args .maps))) (getD (slotsOf (now (c .before .before .before .before .before .args .events))) (c .before .before .before .before .before .args .from) zeroEvent)
+sought-is c = c .sought-of .ensures ∙ ap (soughtOf (mapNumbers (now (c .before .before .before .before .before .args .maps)))) (read-is (c .before))
 
 event-at-requires : tie.Need-event-at-requires
 event-at-requires c κs = omega (arith, c .before .before .before .pre .0 .room, c .before .before .before .pre .0 .long, c .before .before .before .pre .1)

@@ -25,8 +25,8 @@ next-is c =
     c .event-at .ensures ∙ in-slot (now (c .before .before .before .before .before .before .before .args .events)) (c .before .before .before .before .before .before .before .args .from + 1) m
 
 second-is : (c : tie.After-sought-of)
-    → c .sought-of .result ≡ soughtOf (mapNumbers (now (c .before .before .before .before .before .before .before .before .args .map))) (getD (slotsOf (now (c .before .before .before .before .before .before .before .before .args .events))) (c .before .before .before .before .before .before .before .before .args .from + 1) zeroEvent)
-second-is c = c .sought-of .ensures ∙ ap (soughtOf (mapNumbers (now (c .before .before .before .before .before .before .before .before .args .map)))) (next-is (c .before))
+    → c .sought-of .result ≡ soughtOf (mapNumbers (now (c .before .before .before .before .before .before .before .before .args .maps))) (getD (slotsOf (now (c .before .before .before .before .before .before .before .before .args .events))) (c .before .before .before .before .before .before .before .before .args .from + 1) zeroEvent)
+second-is c = c .sought-of .ensures ∙ ap (soughtOf (mapNumbers (now (c .before .before .before .before .before .before .before .before .args .maps)))) (next-is (c .before))
 
 reach-of-code-requires : tie.Need-reach-of-code-requires
 reach-of-code-requires c κs = c .before .before .before .before .before .pre .0 .isWhole
@@ -36,7 +36,7 @@ returns c =
     let a = c .before .before .before .before .before .before .args in
     let p = c .before .before .before .before .before .before .pre in
     let l = now (a .table) in
-    outside-code (mapNumbers (now (a .map))) l (table-facts l (p .0 .isWhole)) (λ k. omega (arith, c .before .before .before .before .before .shared-slice-known .given k)) (slotsOf (now (a .events))) (a .from) (a .to)
+    outside-code (mapNumbers (now (a .maps))) l (table-facts l (p .0 .isWhole)) (λ k. omega (arith, c .before .before .before .before .before .shared-slice-known .given k)) (slotsOf (now (a .events))) (a .from) (a .to)
     (length-slots (now (a .events))) (p .0 .room) (p .1) (p .0 .ranges) (a .one) (p .2) (c .reach-of-code .result .low) (c .reach-of-code .result .high) (c .reach-of-code .ensures)
 
 add-if2 : tie.Need-add-if2
@@ -50,7 +50,7 @@ returns-2 c =
     let a = c .before .before .before .before .before .before .before .args in
     let p = c .before .before .before .before .before .before .before .pre in
     let l = now (a .table) in
-    outside-begins (mapNumbers (now (a .map))) l (table-facts l (p .0 .isWhole)) (λ k. omega (arith, c .before .before .before .before .before .before .shared-slice-known .given k)) (slotsOf (now (a .events))) (a .from) (a .to)
+    outside-begins (mapNumbers (now (a .maps))) l (table-facts l (p .0 .isWhole)) (λ k. omega (arith, c .before .before .before .before .before .before .shared-slice-known .given k)) (slotsOf (now (a .events))) (a .from) (a .to)
     (length-slots (now (a .events))) (p .0 .room) (p .1) (p .0 .ranges) (a .one) (p .2) (c .reach-alone .result .low) (c .reach-alone .result .high) (c .reach-alone .ensures)
 
 add-event-at : tie.Need-add-event-at
@@ -70,7 +70,7 @@ returns-3 c =
     let a = c .before .before .before .before .before .before .before .before .before .args in
     let p = c .before .before .before .before .before .before .before .before .before .pre in
     let l = now (a .table) in
-    outside-pairs (mapNumbers (now (a .map))) l (table-facts l (p .0 .isWhole)) (λ k. omega (arith, c .before .before .before .before .before .before .before .before .shared-slice-known .given k)) (slotsOf (now (a .events))) (a .from) (a .to)
+    outside-pairs (mapNumbers (now (a .maps))) l (table-facts l (p .0 .isWhole)) (λ k. omega (arith, c .before .before .before .before .before .before .before .before .shared-slice-known .given k)) (slotsOf (now (a .events))) (a .from) (a .to)
     (length-slots (now (a .events))) (p .0 .room) (p .1) (p .0 .ranges) (a .one) (p .2) (c .reach-paired .result .low) (c .reach-paired .result .high)
     (c .before .sought-of .result) (next (c .before .before .before)) (second-is (c .before)) (c .reach-paired .ensures)
 

@@ -24,11 +24,11 @@ use Rattle.walk.proofs.scan.Statement.{statement}
 use Rattle.walk.proofs.scan.Tie as tie
 
 abbrev Inv-loop : tie.InvT-loop
-Inv-loop table map limit events from to one n high seen₀ at₀ p₀ seen at p =
-    Passing (lentSetting map limit) table (drop from (take to (slotsOf events))) seen at p
+Inv-loop table maps limit events from to one n high seen₀ at₀ p₀ seen at p =
+    Passing (lentSetting maps limit) table (drop from (take to (slotsOf events))) seen at p
 
 abbrev μ-loop : tie.MeasureT-loop
-μ-loop table map limit events from to one n high seen₀ at₀ p₀ seen at p = n - p
+μ-loop table maps limit events from to one n high seen₀ at₀ p₀ seen at p = n - p
 
 -- where the production's events stand
 place : (c : tie.After-production-events Inv-loop μ-loop) → Place (now (c .before .before .before .before .before .before .before .before .before .before .before .args .table)) (c .before .before .before .loop .at) (c .before .before .before .loop .p) (c .production-events .result)
@@ -45,7 +45,7 @@ stretch c = let a = c .before .before .before .before .before .before .before .b
 abbrev walk : (c : tie.After-production-events Inv-loop μ-loop) → Followed
 walk c =
     let a = c .before .before .before .before .before .before .before .before .before .before .before .args in
-    walked (lentSetting (now (a .map)) (a .limit)) none none (expanded (run (eventEntry (now (a .table))) (c .before .before .before .loop .at) (c .production-events .result))) (stretch c)
+    walked (lentSetting (now (a .maps)) (a .limit)) none none (expanded (run (eventEntry (now (a .table))) (c .before .before .before .loop .at) (c .production-events .result))) (stretch c)
 
 -- its first event does not pass the quick test
 another : (c : tie.Else2 Inv-loop μ-loop) → walk (c .before .before) ≡ Followed.No
@@ -54,7 +54,7 @@ another c =
     let p = c .before .before .before .before .before .before .before .before .before .before .before .before .before .pre in
     let l = now (a .table) in
     let g = place (c .before .before) in
-    seems-not (lentSetting (now (a .map)) (a .limit)) l (table-facts l (p .0 .isWhole)) (λ k. omega (arith, c .before .before .before .before .before .before .before .before .before .before .before .before .shared-slice-known .given k)) (c .before .before .before .before .before .loop .at) (c .before .before .production-events .result) (slotsOf (now (a .events))) (a .from) (a .to)
+    seems-not (lentSetting (now (a .maps)) (a .limit)) l (table-facts l (p .0 .isWhole)) (λ k. omega (arith, c .before .before .before .before .before .before .before .before .before .before .before .before .shared-slice-known .given k)) (c .before .before .before .before .before .loop .at) (c .before .before .production-events .result) (slotsOf (now (a .events))) (a .from) (a .to)
     (length-slots (now (a .events))) (p .0 .room) (p .1) (g .some) (g .within) (p .0 .ranges)
     (ap (seems l (c .before .before .before .before .before .loop .at)) (sym (p .2)) ∙ sym (c .before .seems-one .ensures) ∙ c .if2 .left)
 
@@ -74,7 +74,7 @@ loop-holds : tie.Need-loop-holds Inv-loop μ-loop
 loop-holds c =
     let a = c .before .before .before .before .before .before .before .args in
     let p = c .before .before .before .before .before .before .before .pre in
-    passing-over (lentSetting (now (a .map)) (a .limit)) (now (a .table)) (drop (a .from) (take (a .to) (slotsOf (now (a .events))))) (a .reach .low) (a .reach .high) (table-facts _ (p .0 .isWhole)) (p .3)
+    passing-over (lentSetting (now (a .maps)) (a .limit)) (now (a .table)) (drop (a .from) (take (a .to) (slotsOf (now (a .events))))) (a .reach .low) (a .reach .high) (table-facts _ (p .0 .isWhole)) (p .3)
     (c .before .skip .result .at) (c .before .skip .result .p) (c .before .skip .ensures)
 
 ended-requires : tie.Need-ended-requires Inv-loop μ-loop
@@ -86,7 +86,7 @@ returns c =
     let p = c .before .before .before .before .before .before .before .before .before .before .before .pre in
     let v = c .before .before .before .loop in
     c .ended .ensures
-    ∙ sym (passing-past (lentSetting (now (a .map)) (a .limit)) (now (a .table)) (drop (a .from) (take (a .to) (slotsOf (now (a .events))))) (a .reach .low) (a .reach .high) (table-facts _ (p .0 .isWhole)) (p .3)
+    ∙ sym (passing-past (lentSetting (now (a .maps)) (a .limit)) (now (a .table)) (drop (a .from) (take (a .to) (slotsOf (now (a .events))))) (a .reach .low) (a .reach .high) (table-facts _ (p .0 .isWhole)) (p .3)
     (v .seen) (v .at) (v .p) (v .inv) (c .before .if1 .taken))
 
 production-events-requires : tie.Need-production-events-requires Inv-loop μ-loop
@@ -115,7 +115,7 @@ returns-2 c =
     let a = c .before .before .before .before .before .before .before .before .before .before .before .before .before .before .before .before .args in
     let v = c .before .before .before .before .before .before .before .before .loop in
     let g = place (c .before .before .before .before .before) in
-    sym (passing-whole (lentSetting (now (a .map)) (a .limit)) (now (a .table)) (stretch (c .before .before .before .before .before)) (v .seen) (v .at) (v .p) (c .before .before .before .before .before .production-events .result) (v .inv) (g .there) (g .isSize)
+    sym (passing-whole (lentSetting (now (a .maps)) (a .limit)) (now (a .table)) (stretch (c .before .before .before .before .before)) (v .seen) (v .at) (v .p) (c .before .before .before .before .before .production-events .result) (v .inv) (g .there) (g .isSize)
     (c .before .before .follow .result) (c .before .before .follow .ensures) (c .enum-told .given .1))
 
 enum-told-2 : tie.Need-enum-told-2 Inv-loop μ-loop
@@ -139,7 +139,7 @@ loop-again c =
     let a = c .before .before .before .before .before .before .before .before .before .before .before .before .before .before .before .before .args in
     let v = c .before .before .before .before .before .before .before .before .loop in
     let g = place (c .before .before .before .before .before) in
-    passing-prefix (lentSetting (now (a .map)) (a .limit)) (now (a .table)) (stretch (c .before .before .before .before .before)) (v .seen) (v .at) (v .p) (c .before .before .before .before .before .production-events .result) (v .inv) (g .there) (g .isSize)
+    passing-prefix (lentSetting (now (a .maps)) (a .limit)) (now (a .table)) (stretch (c .before .before .before .before .before)) (v .seen) (v .at) (v .p) (c .before .before .before .before .before .production-events .result) (v .inv) (g .there) (g .isSize)
     (c .before .before .follow .result) (c .before .before .follow .ensures) (c .enum-told2 .given .1)
 
 enum-told-3 : tie.Need-enum-told-3 Inv-loop μ-loop
@@ -163,7 +163,7 @@ loop-again-2 c =
     let a = c .before .before .before .before .before .before .before .before .before .before .before .before .before .before .before .before .args in
     let v = c .before .before .before .before .before .before .before .before .loop in
     let g = place (c .before .before .before .before .before) in
-    passing-no (lentSetting (now (a .map)) (a .limit)) (now (a .table)) (stretch (c .before .before .before .before .before)) (v .seen) (v .at) (v .p) (c .before .before .before .before .before .production-events .result) (v .inv) (g .there) (g .isSize)
+    passing-no (lentSetting (now (a .maps)) (a .limit)) (now (a .table)) (stretch (c .before .before .before .before .before)) (v .seen) (v .at) (v .p) (c .before .before .before .before .before .production-events .result) (v .inv) (g .there) (g .isSize)
     (c .before .before .follow .result) (c .before .before .follow .ensures) (c .enum-told3 .given .1)
 
 add-at-3 : tie.Need-add-at-3 Inv-loop μ-loop
@@ -184,7 +184,7 @@ loop-again-3 c =
     let a = c .before .before .before .before .before .before .before .before .before .before .before .before .before .args in
     let v = c .before .before .before .before .before .loop in
     let g = place (c .before .before) in
-    passing-no (lentSetting (now (a .map)) (a .limit)) (now (a .table)) (stretch (c .before .before)) (v .seen) (v .at) (v .p) (c .before .before .production-events .result) (v .inv) (g .there) (g .isSize)
+    passing-no (lentSetting (now (a .maps)) (a .limit)) (now (a .table)) (stretch (c .before .before)) (v .seen) (v .at) (v .p) (c .before .before .production-events .result) (v .inv) (g .there) (g .isSize)
     (walk (c .before .before)) refl (another c)
 
 ended-requires-2 : tie.Need-ended-requires-2 Inv-loop μ-loop
@@ -195,7 +195,7 @@ returns-3 c =
     let a = c .before .before .before .before .before .before .before .before .before .before .args in
     let v = c .before .before .loop in
     let h : productionTotal (now (a .table)) ≤ v .p = omega (arith, c .before .before .before .before .before .before .production-count .ensures, c .before .loop-test .left) in
-    c .ended2 .ensures ∙ sym (passing-end (lentSetting (now (a .map)) (a .limit)) (now (a .table)) (drop (a .from) (take (a .to) (slotsOf (now (a .events))))) (v .seen) (v .at) (v .p) (v .inv) h)
+    c .ended2 .ensures ∙ sym (passing-end (lentSetting (now (a .maps)) (a .limit)) (now (a .table)) (drop (a .from) (take (a .to) (slotsOf (now (a .events))))) (v .seen) (v .at) (v .p) (v .inv) h)
 
 pub scan-spec : {M : Type 1} → statement M
 scan-spec =

@@ -15,11 +15,11 @@ use Rattle.matcher.proofs.moves.heard.Tie as tie
 
 -- the slots with the event are ready to be walked along
 ready : (c : tie.After-put-event)
-    → WalkReady (now (c .before .before .before .before .before .args .table)) (mapNumbers (now (c .before .before .before .before .before .args .map))) (c .put-event .last .0) (c .before .before .before .before .before .args .state .kept + 1)
+    → WalkReady (now (c .before .before .before .before .before .args .table)) (mapNumbers (now (c .before .before .before .before .before .args .maps))) (c .put-event .last .0) (c .before .before .before .before .before .args .state .kept + 1)
 ready c =
     let a = c .before .before .before .before .before .args in
     let p = c .before .before .before .before .before .pre in
-    more-ready (a .state) (state-facts (a .state) (p .1 .0)) (a .x) (now (a .table)) (mapNumbers (now (a .map))) (c .put-event .last .0) (p .0 .0) (p .0 .1) (p .1 .1) (c .put-event .ensures)
+    more-ready (a .state) (state-facts (a .state) (p .1 .0)) (a .x) (now (a .table)) (mapNumbers (now (a .maps))) (c .put-event .last .0) (p .0 .0) (p .0 .1) (p .1 .1) (c .put-event .ensures)
 
 slice-aggregate-put-event : tie.Need-slice-aggregate-put-event
 slice-aggregate-put-event c = sym (state-facts (c .before .before .before .before .args .state) (c .before .before .before .before .pre .1 .0) .long)
@@ -66,7 +66,7 @@ returns c =
     let a = c .before .before .before .before .before .before .before .before .before .before .before .before .args in
     let f = state-facts (a .state) (c .before .before .before .before .before .before .before .before .before .before .before .before .pre .1 .0) in
     c .restart .ensures
-    ∙ heard-no (decode (now (a .table))) (lentSetting (now (a .map)) (a .limit)) (a .state) f (a .x) (c .before .before .before .before .before .before .before .put-event .last .0) (c .before .before .before .before .before .before .before .put-event .ensures)
+    ∙ heard-no (decode (now (a .table))) (lentSetting (now (a .maps)) (a .limit)) (a .state) f (a .x) (c .before .before .before .before .before .before .before .put-event .last .0) (c .before .before .before .before .before .before .before .put-event .ensures)
     (c .before .before .before .before .pass .result) (c .before .before .before .before .pass .ensures) (c .before .before .enum-told .given .1)
 
 returns-2 : tie.Need-returns-2
@@ -75,7 +75,7 @@ returns-2 c =
     let f = state-facts (a .state) (c .before .before .before .before .before .before .before .before .before .before .before .pre .1 .0) in
     let q : c .before .before .before .pass .result ≡ Passed.Prefix = c .before .enum-told2 .given .1 in
     c .answered .ensures
-    ∙ heard-yes (decode (now (a .table))) (lentSetting (now (a .map)) (a .limit)) (a .state) f (a .x) (c .before .before .before .before .before .before .put-event .last .0) (c .before .before .before .before .before .before .put-event .ensures)
+    ∙ heard-yes (decode (now (a .table))) (lentSetting (now (a .maps)) (a .limit)) (a .state) f (a .x) (c .before .before .before .before .before .before .put-event .last .0) (c .before .before .before .before .before .before .put-event .ensures)
     Passed.Prefix (sym q ∙ c .before .before .before .pass .ensures) refl
 
 returns-3 : tie.Need-returns-3
@@ -84,7 +84,7 @@ returns-3 c =
     let f = state-facts (a .state) (c .before .before .before .before .before .before .before .before .before .before .before .before .pre .1 .0) in
     let q = c .before .before .p .given .1 in
     c .answered2 .ensures
-    ∙ heard-yes (decode (now (a .table))) (lentSetting (now (a .map)) (a .limit)) (a .state) f (a .x) (c .before .before .before .before .before .before .before .put-event .last .0) (c .before .before .before .before .before .before .before .put-event .ensures)
+    ∙ heard-yes (decode (now (a .table))) (lentSetting (now (a .maps)) (a .limit)) (a .state) f (a .x) (c .before .before .before .before .before .before .before .put-event .last .0) (c .before .before .before .before .before .before .before .put-event .ensures)
     (Passed.Chosen (c .before .before .p .given .0 .0)) (sym q ∙ c .before .before .before .before .pass .ensures) refl
 
 pub heard-spec : {M : Type 1} → statement M

@@ -32,7 +32,7 @@ returns c =
     let s = c .before .before .first-start in
     let u = c .before .before .before .used-up in
     c .answered .ensures
-    ∙ restart-is (decode (now (a .table))) (lentSetting (now (a .map)) (a .limit)) (slotsOf (now (a .events))) (a .to) (a .selected) (u .result) (s .result .at) (s .result .found) (c .before .shifted .result)
+    ∙ restart-is (decode (now (a .table))) (lentSetting (now (a .maps)) (a .limit)) (slotsOf (now (a .events))) (a .to) (a .selected) (u .result) (s .result .at) (s .result .found) (c .before .shifted .result)
     (length-slots (now (a .events))) (p .0 .room) (s .ensures .0) (u .ensures) (s .ensures .1) (s .ensures .2) (c .before .shifted .ensures)
 
 pub restart-spec : {M : Type 1} → statement M

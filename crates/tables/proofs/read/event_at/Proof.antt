@@ -1,6 +1,5 @@
 -- `tables::read::event_at` meets its contract.
 use borrow.Author.Needs.{needs}
-use Prim.Native.Nat.{_-_}
 use Rattle.tables.specs.Reading.{eventEntry}
 use Rattle.tables.proofs.read.event_at.Statement.{statement}
 use Rattle.tables.proofs.read.event_at.Tie as tie
@@ -47,12 +46,15 @@ add-word-at-7 c = search needs
 word-at-requires-7 : tie.Need-word-at-requires-7
 word-at-requires-7 c κs = search needs
 
+keysyms-at-requires : tie.Need-keysyms-at-requires
+keysyms-at-requires c κs = search needs
+
 event-of-requires : tie.Need-event-of-requires
 event-of-requires c κs = search needs
 
 returns : tie.Need-returns
 unfolding eventEntry
-returns c = rw (c .event-of .ensures, c .before .before .before .before .before .before .before .word-at .ensures, c .before .before .before .before .before .before .word-at2 .ensures, c .before .before .before .before .before .word-at3 .ensures, c .before .before .before .before .word-at4 .ensures, c .before .before .before .word-at5 .ensures, c .before .before .word-at6 .ensures, c .before .word-at7 .ensures)
+returns c = rw (c .event-of .ensures, c .before .keysyms-at .ensures, c .before .before .before .before .before .before .before .before .word-at .ensures, c .before .before .before .before .before .before .before .word-at2 .ensures, c .before .before .before .before .before .before .word-at3 .ensures, c .before .before .before .before .before .word-at4 .ensures, c .before .before .before .before .word-at5 .ensures, c .before .before .before .word-at6 .ensures, c .before .before .word-at7 .ensures)
 
 pub event-at-spec : {M : Type 1} → statement M
 event-at-spec =
@@ -72,5 +74,6 @@ event-at-spec =
     word-at-requires-6
     add-word-at-7
     word-at-requires-7
+    keysyms-at-requires
     event-of-requires
     returns)

@@ -1,6 +1,5 @@
 -- `tables::write::put_event` meets its contract.
 use borrow.Author.Needs.{needs}
-use Prim.Native.Nat.{_-_}
 use Rattle.tables.specs.Writing.{putEvent}
 use Rattle.tables.proofs.write.put_event.Statement.{statement}
 use Rattle.tables.proofs.write.put_event.Tie as tie
@@ -32,12 +31,15 @@ cast-put-detail-2 c = search needs
 put-detail-requires : tie.Need-put-detail-requires
 put-detail-requires c κs = search needs
 
+put-keysyms-requires : tie.Need-put-keysyms-requires
+put-keysyms-requires c κs = search needs
+
 same-length : tie.Need-same-length
 same-length c = search needs
 
 returns : tie.Need-returns
 unfolding putEvent
-returns c = rw (c .before .before .put-detail .ensures, c .before .before .before .before .before .before .put-test .ensures, c .before .before .before .before .before .before .before .before .value-of .ensures, c .before .before .before .before .before .before .before .before .before .flags-of .ensures, c .before .before .before .before .before .before .before .before .before .before .is-given .ensures)
+returns c = rw (c .before .before .put-keysyms .ensures, c .before .before .before .before .before .before .put-detail .ensures, c .before .before .before .before .before .before .before .before .before .before .put-test .ensures, c .before .before .before .before .before .before .before .before .before .before .before .before .value-of .ensures, c .before .before .before .before .before .before .before .before .before .before .before .before .before .flags-of .ensures, c .before .before .before .before .before .before .before .before .before .before .before .before .before .before .is-given .ensures)
 
 pub put-event-spec : {M : Type 1} → statement M
 put-event-spec =
@@ -52,5 +54,6 @@ put-event-spec =
     cast-put-detail
     cast-put-detail-2
     put-detail-requires
+    put-keysyms-requires
     same-length
     returns)

@@ -1,9 +1,9 @@
--- `modifier_text::put_if` meets its contract.
+-- `writing::bytes::put_if` meets its contract.
 use borrow.Author.Needs.{needs}
 use native.Mathlib.Omega.{arith}
 use Rattle.writing.proofs.Laws.{put-none}
-use Rattle.modifier_text.proofs.put_if.Statement.{statement}
-use Rattle.modifier_text.proofs.put_if.Tie as tie
+use Rattle.writing.proofs.bytes.put_if.Statement.{statement}
+use Rattle.writing.proofs.bytes.put_if.Tie as tie
 
 put-byte-requires : tie.Need-put-byte-requires
 put-byte-requires c κs = search needs

@@ -1,0 +1,16 @@
+-- `resolving::other_bits` meets its contract.
+use borrow.Author.Needs.{needs}
+use Rattle.resolving.proofs.other_bits.Statement.{statement}
+use Rattle.resolving.proofs.other_bits.Tie as tie
+
+sub-result : tie.Need-sub-result
+sub-result c = search needs
+
+returns : tie.Need-returns
+returns c = rw (c .if1 .taken)
+
+returns-2 : tie.Need-returns-2
+returns-2 c = search needs
+
+pub other-bits-spec : {M : Type 1} → statement M
+other-bits-spec = tie.close (tie.spec sub-result returns returns-2)
