@@ -45,7 +45,9 @@ fn same_event(e: KeptEvent, f: KeptEvent) -> bool
         & (e.clear == f.clear)
         & (e.colon == f.colon)
         & (e.clause == f.clause);
-    let names = (e.bang == f.bang) & (e.names == f.names) & same_keysyms(j, k);
+    let m = e.names;
+    let n = f.names;
+    let names = (e.bang == f.bang) & (m == n) & same_keysyms(j, k);
     (e.code == f.code) & (plain & names) & same_detail(d, g) & (e.count == f.count)
 }
 
