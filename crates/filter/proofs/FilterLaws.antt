@@ -4,22 +4,26 @@ use Prim.Native.Nat.{ℕ, _+_, _-_, _*_, _/_, _%_, _≤_, _<_}
 use native.Mathlib.Omega.{arith}
 use borrow.Author.Tests.{eqb-true, eq-eqb, ltb-true, ltb-false, le-leb}
 use mathlib.Core.Path.{_≡_, refl, sym, ap, _∙_}
-use mathlib.Core.Bool.{Bool, true, false, cond, not, _||_, true≢false}
+use mathlib.Core.Bool.{Bool, true, false, cond, not, _&&_, _||_, true≢false}
 use mathlib.Core.List.{List, [], _∷_}
 use lib.Bits.{bitAnd, bitOr, and-le-l, and-le-r, or-add-and}
 use lib.Dec.{eqb, leb, ltb}
 use lib.ListN.{length, getD, take, drop}
 use Rattle.words.specs.Words.{wordAt}
-use Rattle.words.proofs.Bools.{and-left, and-both, chain-parts}
+use Rattle.words.proofs.Bools.{and-left, and-right, and-both, chain-parts}
 use Rattle.keyboard.specs.Folds.{fold, folded}
 use Rattle.keyboard.proofs.Folds.{asked-in}
 use Rattle.model.specs.Setting.{Setting, firstKeysym, secondKeysym}
-use Rattle.model.specs.Asked.{asked, testMet}
+use Rattle.model.specs.Asked.{Test, asksBitSet, asked}
 use Rattle.model.specs.Counts.{quick}
-use Rattle.model.specs.Matching.{detailMet}
-use Rattle.model.specs.Modifiers.{bitsMet, clauseMet, stateMeets}
+use Rattle.model.specs.Modifiers.{bit, bitsMet, clauseMet, stateMeets}
 use Rattle.model.specs.declared.events.Event.{Event}
+use Rattle.model.specs.declared.events.KeptEvent.{KeptEvent}
+use Rattle.modifiers.proofs.Digits.{bit-and}
+use Rattle.modifiers.proofs.Masks.{same-bits, bit-mask}
 use Rattle.modifiers.proofs.Meeting.{bits-met}
+use Rattle.resolving.specs.Gathering.{resolvedTest}
+use Rattle.resolving.proofs.Asking.{asked-below}
 use Rattle.records.specs.Ranges.{EventRanges}
 use Rattle.counts.specs.Elements.{releases, elementCount, elementCode}
 use Rattle.tables.specs.Layout.{codesAt, countsAt, setsAt, clearsAt, lowsAt, highsAt}
@@ -28,11 +32,11 @@ use Rattle.filter.specs.declared.Sought.{Sought}
 use Rattle.follow.specs.declared.Followed.{Followed}
 use Rattle.states.specs.State.{zeroEvent}
 use Rattle.filter.specs.Filter.{Outside}
-use Rattle.follow.specs.Follow.{eventMeets, detailAsked, elementOf, fitsAfter, sizeIn}
+use Rattle.follow.specs.Follow.{eventMeets, detailAsked, askedMet, bitsMeet, elementOf, fitsAfter, sizeIn}
 use Rattle.fields.specs.Fields.{flagsIn, valueIn}
 use Rattle.filter.specs.Filter.{other, soughtOf, suits, codeSeems, detailSeems, seems, mayBegin, pairs, codeBegins, PassersWithin}
 use Rattle.fields.proofs.TableFacts.{EntryFacts, TableFacts}
-use Rattle.follow.proofs.EventLaws.{meets-detail}
+use Rattle.follow.proofs.EventLaws.{meets-asked, meets-detail}
 use Rattle.follow.proofs.FollowLaws.{target, Walks, walks-start, walks-other, walks-over, walks-no, walks-turn}
 
 -- ---- The code
@@ -84,20 +88,70 @@ sought-code : (map : List ℕ) (x : Event) → x .code ≡ soughtOf map x .code
 unfolding soughtOf
 sought-code map x = refl
 
-state-part : (setting : Setting) (l : List ℕ) (i : ℕ) (x : Event) → eventMeets setting (eventEntry l i) x ≡ true
-    → stateMeets (eventEntry l i .set) (eventEntry l i .clear) (isFlag 2 (flagsIn l i)) (x .state) ≡ true
-unfolding eventMeets testMet asked eventEntry eventFromWords flagsIn
-state-part setting l i x m =
-    and-left (stateMeets (eventEntry l i .set) (eventEntry l i .clear) (isFlag 2 (flagsIn l i)) (x .state)) (detailMet setting (eventEntry l i) (eventEntry l i .detail) x) m
+-- a state that has the bits of a mask has those of a mask within it
+bits-within : (state wide set : ℕ) → wide < 8192 → set < 8192 → ((k : ℕ) → k < 13 → bit k set ≡ true → bit k wide ≡ true)
+    → bitAnd state wide ≡ wide → bitAnd state set ≡ set
+bits-within state wide set hw hs within e =
+    same-bits 13 (bitAnd state set) set (omega (arith, and-le-r state set)) hs (λ k h. bit-and k state set ∙ go k h (bit k set) refl)
+  where
+    go : (k : ℕ) → k < 13 → (b : Bool) → bit k set ≡ b → bit k state && b ≡ b
+    go k h true q =
+        let w : bit k wide ≡ true = within k h q in
+        ap (λ (b : Bool). bit k state && b) (sym w) ∙ sym (bit-and k state wide) ∙ ap (bit k) e ∙ w
+    go k h false q = none (bit k state)
+      where
+        none : (b : Bool) → b && false ≡ false
+        none true = refl
+        none false = refl
 
-suits-state : (map l : List ℕ) (i : ℕ) (x : Event) → EntryFacts l i
-    → stateMeets (eventEntry l i .set) (eventEntry l i .clear) (isFlag 2 (flagsIn l i)) (x .state) ≡ true → suits l i (soughtOf map x) ≡ true
-unfolding suits stateMeets soughtOf eventEntry eventFromWords
-suits-state map l i x f m =
-    let set = wordAt l (setsAt + i) in
-    let clear = wordAt l (clearsAt + i) in
-    let b : bitsMet set clear (x .state) ≡ true = and-left (bitsMet set clear (x .state)) (clauseMet (isFlag 2 (flagsIn l i)) (x .state)) m in
-    and-left (eqb (bitAnd (x .state) set) set) (eqb (bitAnd (x .state) clear) 0) (sym (bits-met set clear (x .state) (f .setBelow) (f .clearBelow)) ∙ b)
+-- plain bits asked set are among those that names resolve to
+set-within : (setting : Setting) (e : KeptEvent) (k : ℕ) → k < 13 → bit k (e .set) ≡ true → bit k (asked setting e .set) ≡ true
+unfolding asked asksBitSet
+set-within setting e k h q = bit-mask (asksBitSet setting e) k h ∙ rw q
+
+asked-low : (setting : Setting) (e : KeptEvent) → (asked setting e .set < 8192) × (asked setting e .clear < 8192)
+asked-low setting e = asked-below setting e (resolvedTest (asked setting e)) refl
+
+-- the bits, of the bits and the detail
+first-part : (map : List ℕ) (set clear : ℕ) (l : List ℕ) (i : ℕ) (x : Event) → bitsMeet map set clear (eventEntry l i) x ≡ true
+    → stateMeets set clear (isFlag 2 (flagsIn l i)) (x .state) ≡ true
+unfolding bitsMeet eventEntry eventFromWords flagsIn
+first-part map set clear l i x m =
+    and-left (stateMeets set clear (isFlag 2 (flagsIn l i)) (x .state)) (askedMet map set clear (eventEntry l i) (eventEntry l i .detail) x) m
+
+-- the masks, of what a state meets
+set-met : (set clear : ℕ) (clause : Bool) (state : ℕ) → set < 8192 → clear < 8192 → stateMeets set clear clause state ≡ true
+    → bitAnd state set ≡ set
+unfolding stateMeets
+set-met set clear clause state hs hc m =
+    eqb-true (bitAnd state set) set
+    (and-left (eqb (bitAnd state set) set) (eqb (bitAnd state clear) 0)
+    (sym (bits-met set clear state hs hc) ∙ and-left (bitsMet set clear state) (clauseMet clause state) m))
+
+has-set : (map l : List ℕ) (i : ℕ) (x : Event) → bitAnd (x .state) (eventEntry l i .set) ≡ eventEntry l i .set → suits l i (soughtOf map x) ≡ true
+unfolding suits soughtOf eventEntry eventFromWords
+has-set map l i x e = eq-eqb (bitAnd (x .state) (wordAt l (setsAt + i))) (wordAt l (setsAt + i)) e
+
+module _ (setting : Setting) (l : List ℕ) (i : ℕ) (x : Event) (r : EventRanges x) where
+  abbrev test : Test
+  test = asked setting (eventEntry l i)
+
+  bits-part : eventMeets setting (eventEntry l i) x ≡ true
+      → bitsMeet (setting .keyboard) (test .set) (test .clear) (eventEntry l i) x ≡ true
+  bits-part m =
+      and-right (not (test .dead)) (bitsMeet (setting .keyboard) (test .set) (test .clear) (eventEntry l i) x)
+      (sym (meets-asked setting (eventEntry l i) x r) ∙ m)
+
+  state-part : eventMeets setting (eventEntry l i) x ≡ true
+      → stateMeets (test .set) (test .clear) (isFlag 2 (flagsIn l i)) (x .state) ≡ true
+  state-part m = first-part (setting .keyboard) (test .set) (test .clear) l i x (bits-part m)
+
+  suits-state : EntryFacts l i → eventMeets setting (eventEntry l i) x ≡ true → suits l i (soughtOf (setting .keyboard) x) ≡ true
+  suits-state f m =
+      let b = asked-low setting (eventEntry l i) in
+      has-set (setting .keyboard) l i x
+      (bits-within (x .state) (test .set) (eventEntry l i .set) (b .0) (f .setBelow) (set-within setting (eventEntry l i))
+      (set-met (test .set) (test .clear) (isFlag 2 (flagsIn l i)) (x .state) (b .0) (b .1) (state-part m)))
 
 module _ (setting : Setting) (x : Event) where
   none-asked : (low : ℕ) → low ≡ 0 → detailSeems low (soughtOf (setting .keyboard) x) ≡ true
@@ -127,12 +181,11 @@ module _ (setting : Setting) (x : Event) where
     detail-seems : eventMeets setting (eventEntry l i) x ≡ true → detailSeems (wordAt l (lowsAt + i)) (soughtOf (setting .keyboard) x) ≡ true
     detail-seems m = go (isFlag 4 (flagsIn l i)) refl
       where
-        state-met : stateMeets (eventEntry l i .set) (eventEntry l i .clear) (isFlag 2 (flagsIn l i)) (x .state) ≡ true
-        state-met = state-part setting l i x m
-
         go : (t : Bool) → isFlag 4 (flagsIn l i) ≡ t → detailSeems (wordAt l (lowsAt + i)) (soughtOf (setting .keyboard) x) ≡ true
         go true q =
-            asked-seems (eventEntry l i .set) (eventEntry l i .clear) (isFlag 1 (flagsIn l i)) (valueIn l i) (wordAt l (lowsAt + i)) (low-is l b i) (meets-detail setting l i x r state-met q ∙ m)
+            let t = asked setting (eventEntry l i) in
+            asked-seems (t .set) (t .clear) (isFlag 1 (flagsIn l i)) (valueIn l i) (wordAt l (lowsAt + i)) (low-is l b i)
+            (meets-detail (setting .keyboard) (t .set) (t .clear) l i x (state-part setting l i x r m) q ∙ bits-part setting l i x r m)
         go false q = none-asked (wordAt l (lowsAt + i)) (f .bare q)
 
     -- ---- The event
@@ -152,7 +205,7 @@ module _ (setting : Setting) (x : Event) where
       suits-fits e =
           let p = chain-parts (eqb (elementCode (eventEntry l i .code) (eventEntry l i .count) 0) (x .code))
           (eventMeets setting (eventEntry l i) x ∷ (not (elementOf (eventEntry l i) 0 .timed) || quick (setting .time) before (x .time)) ∷ []) e in
-          suits-state (setting .keyboard) l i x f (state-part setting l i x (p .1 .0))
+          suits-state setting l i x r f (p .1 .0)
 
       -- an event that does not pass does not fit
       pub fits-suits : suits l i (soughtOf (setting .keyboard) x) ≡ false → fitsAfter setting before (elementOf (eventEntry l i) 0) x ≡ false

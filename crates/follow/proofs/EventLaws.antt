@@ -14,12 +14,14 @@ use Rattle.model.specs.Counts.{Element, quick}
 use Rattle.model.specs.Matching.{detailMet, meets, inTime, fits}
 use Rattle.model.specs.declared.events.Event.{Event}
 use Rattle.model.specs.declared.events.Detail.{Detail}
+use Rattle.model.specs.declared.events.Keysyms.{Keysyms}
 use Rattle.model.specs.declared.events.KeptEvent.{KeptEvent}
 use Rattle.keyboard.specs.Pairs.{pairAsked}
 use Rattle.keyboard.proofs.Pairs.{key-matches}
 use Rattle.records.specs.Ranges.{EventRanges}
 use Rattle.tables.specs.Reading.{isFlag, eventFromWords, eventEntry}
 use Rattle.tables.specs.Fitting.{comesAfter, keysymsInRange}
+use Rattle.tables.proofs.EventWords.{keysym-facts}
 use Rattle.resolving.specs.declared.Resolved.{Resolved}
 use Rattle.resolving.specs.Gathering.{resolvedTest}
 use Rattle.resolving.proofs.Asking.{asked-plain}
@@ -53,10 +55,25 @@ plain-names e p =
     (not-false _ (or-no-left (not (eqb (e .names) 0)) (not (eqb (e .keysyms .first) 0)) (or-no-right (e .bang) (keepsNames e) p)))
 
 none-after : (s next : ℕ) → comesAfter s next ≡ true → s ≡ 0 → next ≡ 0
-none-after s next e z = ?
+none-after s next e z = go (eqb next 0) refl
+  where
+    go : (t : Bool) → eqb next 0 ≡ t → next ≡ 0
+    go true q = eqb-true next 0 q
+    go false q = absurd (true≢false (sym (rw (q, eq-eqb s 0 z) at e)))
 
 plain-keysyms : (e : KeptEvent) → keysymsInRange (e .keysyms) ≡ true → keptAsWritten e ≡ false → e .keysyms ≡ noKeysyms
-plain-keysyms e k p = ?
+plain-keysyms e k p =
+    let f = keysym-facts (e .keysyms) k in
+    let a : e .keysyms .first ≡ 0 =
+    eqb-true (e .keysyms .first) 0
+    (not-false _ (or-no-right (not (eqb (e .names) 0)) (not (eqb (e .keysyms .first) 0)) (or-no-right (e .bang) (keepsNames e) p))) in
+    let b = none-after (e .keysyms .first) (e .keysyms .second) (f .firstSecond) a in
+    let c = none-after (e .keysyms .second) (e .keysyms .third) (f .secondThird) b in
+    four a b c (none-after (e .keysyms .third) (e .keysyms .fourth) (f .thirdFourth) c)
+  where
+    four : {a b c d : ℕ} → a ≡ 0 → b ≡ 0 → c ≡ 0 → d ≡ 0
+        → _≡_ {A = Keysyms} (record { first = a; second = b; third = c; fourth = d }) noKeysyms
+    four p q r s = λ i. record { first = p i; second = q i; third = r i; fourth = s i }
 
 -- ---- The detail
 
@@ -104,7 +121,7 @@ clause-kept setting e = refl
 
 module _ (setting : Setting) (e : KeptEvent) (x : Event) (r : EventRanges x) where
   -- the event's test, by the bits that it asks under the setting
-  meets-asked : eventMeets setting e x
+  pub meets-asked : eventMeets setting e x
       ≡ not (asked setting e .dead) && bitsMeet (setting .keyboard) (asked setting e .set) (asked setting e .clear) e x
   unfolding eventMeets testMet bitsMeet
   meets-asked =

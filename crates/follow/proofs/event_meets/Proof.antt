@@ -1,118 +1,63 @@
 -- `follow::event_meets` meets its contract.
 use Prim.Native.Nat.{ℕ, _<_}
 use native.Mathlib.Omega.{arith}
-use mathlib.Core.Path.{_≡_, sym, ap, _∙_}
-use mathlib.Core.Bool.{Bool}
+use mathlib.Core.Path.{_≡_, sym, ap₂, _∙_}
 use denote.Ref.{now}
-use mathlib.Core.List.{List}
-use borrow.Author.Tests.{not-true, not-false}
-use Rattle.model.specs.declared.events.Event.{Event}
-use Rattle.model.specs.Modifiers.{stateMeets}
-use Rattle.tables.specs.Reading.{isFlag, eventEntry}
-use Rattle.follow.specs.Follow.{detailAsked}
-use Rattle.fields.specs.Fields.{flagsIn}
+use Rattle.tables.specs.Reading.{eventEntry}
 use Rattle.keyboard.specs.Maps.{mapNumbers, lentSetting}
+use Rattle.follow.specs.Follow.{bitsMeet}
 use Rattle.fields.proofs.TableFacts.{table-facts}
-use Rattle.follow.proofs.EventLaws.{meets-not, meets-any, meets-detail}
+use Rattle.follow.proofs.EventLaws.{meets-plain}
 use borrow.Author.Needs.{needs}
 use Rattle.follow.proofs.event_meets.Statement.{statement}
 use Rattle.follow.proofs.event_meets.Tie as tie
 
--- what the call of state_meets says
-state-met : (c : tie.After-state-meets)
-    → c .state-meets .result
-    ≡ stateMeets (eventEntry (now (c .before .before .before .before .before .before .before .args .table)) (c .before .before .before .before .before .before .before .args .i) .set)
-    (eventEntry (now (c .before .before .before .before .before .before .before .args .table)) (c .before .before .before .before .before .before .before .args .i) .clear)
-    (isFlag 2 (flagsIn (now (c .before .before .before .before .before .before .before .args .table)) (c .before .before .before .before .before .before .before .args .i)))
-    (c .before .before .before .before .before .before .before .args .x .state)
-state-met c =
-    c .state-meets .ensures
-    ∙ rw (c .before .before .before .before .set-at .ensures, c .before .before .before .clear-at .ensures, c .before .is-flag .ensures, c .before .before .flags-at .ensures)
+names-at-requires : tie.Need-names-at-requires
+names-at-requires c κs = search needs
 
-asked : (map : List ℕ) (x : Event) {s s′ k k′ v v′ : ℕ} {b b′ : Bool} → s ≡ s′ → k ≡ k′ → b ≡ b′ → v ≡ v′
-    → detailAsked map s k b v x ≡ detailAsked map s′ k′ b′ v′ x
-asked map x p q r t = λ i. detailAsked map (p i) (q i) (r i) (t i) x
+named-meets-requires : tie.Need-named-meets-requires
+named-meets-requires c κs = search needs
+
+returns : tie.Need-returns
+returns c = c .named-meets .ensures
 
 set-at-requires : tie.Need-set-at-requires
 set-at-requires c κs =
-    let f = table-facts _ (c .before .before .pre .0 .0) in
-    let n : c .before .before .args .i < 256 = omega (arith, f .events) in
-    (f .long, n)
-
-clear-at-requires : tie.Need-clear-at-requires
-clear-at-requires c κs =
-    let f = table-facts _ (c .before .before .before .pre .0 .0) in
-    let n : c .before .before .before .args .i < 256 = omega (arith, f .events) in
-    (f .long, n)
-
-flags-at-requires : tie.Need-flags-at-requires
-flags-at-requires c κs =
     let f = table-facts _ (c .before .before .before .before .pre .0 .0) in
     let n : c .before .before .before .before .args .i < 256 = omega (arith, f .events) in
     (f .long, n)
 
-is-flag-requires : tie.Need-is-flag-requires
-is-flag-requires c κs = search needs
+clear-at-requires : tie.Need-clear-at-requires
+clear-at-requires c κs =
+    let f = table-facts _ (c .before .before .before .before .before .pre .0 .0) in
+    let n : c .before .before .before .before .before .args .i < 256 = omega (arith, f .events) in
+    (f .long, n)
 
-state-meets-requires : tie.Need-state-meets-requires
-state-meets-requires c κs =
+test-meets-requires : tie.Need-test-meets-requires
+test-meets-requires c κs =
     let p = c .before .before .before .before .before .before .pre in
     let e = table-facts _ (p .0 .0) .entry (c .before .before .before .before .before .before .args .i) (p .0 .1) in
-    (rw (c .before .before .before .set-at .ensures) (e .setBelow), rw (c .before .before .clear-at .ensures) (e .clearBelow), p .1 .1 .state-most)
-
-returns : tie.Need-returns
-returns c limit =
-    let a = c .before .before .before .before .before .before .before .before .args in
-    sym (meets-not (lentSetting (now (a .maps)) limit) (now (a .table)) (a .i) (a .x) (c .before .before .before .before .before .before .before .before .pre .1 .1)
-    (sym (state-met c.before) ∙ not-true _ (c .if1 .taken)))
-
-is-flag-requires-2 : tie.Need-is-flag-requires-2
-is-flag-requires-2 c κs = search needs
+    (p .0, (p .1 .0 .mapped, p .1 .1), (rw (c .before .set-at .ensures) (e .setBelow), rw (c .clear-at .ensures) (e .clearBelow)))
 
 returns-2 : tie.Need-returns-2
 returns-2 c limit =
-    let a = c .before .before .before .before .before .before .before .before .before .before .args in
-    sym (meets-any (lentSetting (now (a .maps)) limit) (now (a .table)) (a .i) (a .x) (c .before .before .before .before .before .before .before .before .before .before .pre .1 .1)
-    (sym (state-met (c .before .before .before)) ∙ not-false _ (c .before .before .if1 .left))
-    (sym (c .before .is-flag2 .ensures ∙ ap (isFlag 4) (c .before .before .before .before .before .flags-at .ensures)) ∙ not-true _ (c .if2 .taken)))
-
-is-flag-requires-3 : tie.Need-is-flag-requires-3
-is-flag-requires-3 c κs = search needs
-
-value-at-requires : tie.Need-value-at-requires
-value-at-requires c κs =
-    let f = table-facts _ (c .before .before .before .before .before .before .before .before .before .before .before .pre .0 .0) in
-    let n : c .before .before .before .before .before .before .before .before .before .before .before .args .i < 256 = omega (arith, f .events) in
-    (f .long, n)
-
-detail-met-requires : tie.Need-detail-met-requires
-detail-met-requires c κs = search needs
-
-returns-3 : tie.Need-returns-3
-returns-3 c limit =
-    let a = c .before .before .before .before .before .before .before .before .before .before .before .before .before .args in
-    let l = now (a .table) in
-    let f = c .before .before .before .before .before .before .before .before .flags-at .ensures in
-    c .detail-met .ensures
-    ∙ asked (mapNumbers (now (a .maps))) (a .x) (c .before .before .before .before .before .before .before .before .before .before .set-at .ensures) (c .before .before .before .before .before .before .before .before .before .clear-at .ensures)
-    (c .before .before .is-flag3 .ensures ∙ ap (isFlag 1) f) (c .before .value-at .ensures)
-    ∙ meets-detail (lentSetting (now (a .maps)) limit) l (a .i) (a .x) (c .before .before .before .before .before .before .before .before .before .before .before .before .before .pre .1 .1)
-    (sym (state-met (c .before .before .before .before .before .before)) ∙ not-false _ (c .before .before .before .before .before .if1 .left))
-    (sym (c .before .before .before .before .is-flag2 .ensures ∙ ap (isFlag 4) f) ∙ not-false _ (c .before .before .before .if2 .left))
+    let a = c .before .before .before .before .before .before .before .args in
+    let p = c .before .before .before .before .before .before .before .pre in
+    let e = eventEntry (now (a .table)) (a .i) in
+    let f = table-facts _ (p .0 .0) .entry (a .i) (p .0 .1) in
+    c .test-meets .ensures
+    ∙ ap₂ (λ (s k : ℕ). bitsMeet (mapNumbers (now (a .maps))) s k e (a .x)) (c .before .before .set-at .ensures) (c .before .clear-at .ensures)
+    ∙ sym (meets-plain (lentSetting (now (a .maps)) limit) e (a .x) (p .1 .1) (f .setBelow) (f .clearBelow) (f .keysyms)
+    (sym (c .before .before .before .before .names-at .ensures) ∙ c .before .before .before .if1 .left))
 
 pub event-meets-spec : {M : Type 1} → statement M
 event-meets-spec =
     tie.close
     (tie.spec
+    names-at-requires
+    named-meets-requires
+    returns
     set-at-requires
     clear-at-requires
-    flags-at-requires
-    is-flag-requires
-    state-meets-requires
-    returns
-    is-flag-requires-2
-    returns-2
-    is-flag-requires-3
-    value-at-requires
-    detail-met-requires
-    returns-3)
+    test-meets-requires
+    returns-2)

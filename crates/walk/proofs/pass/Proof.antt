@@ -25,7 +25,7 @@ event-at-requires : tie.Need-event-at-requires
 event-at-requires c κs = omega (arith, c .before .before .before .pre .0 .room, c .before .before .before .pre .0 .long, c .before .before .before .pre .1)
 
 sought-of-requires : tie.Need-sought-of-requires
-sought-of-requires c κs = (c .before .before .before .before .pre .0 .mapped, rw (read-is c) (c .before .before .before .before .pre .0 .ranges (c .before .before .before .before .args .from) (c .before .before .before .before .pre .1)))
+sought-of-requires c κs = (c .before .before .before .before .pre .0 .mapped .mapped, rw (read-is c) (c .before .before .before .before .pre .0 .ranges (c .before .before .before .before .args .from) (c .before .before .before .before .pre .1)))
 
 reach-of-requires : tie.Need-reach-of-requires
 reach-of-requires c κs = (c .before .before .before .before .before .pre .0, c .before .before .before .before .before .pre .1, sought-is c)

@@ -60,7 +60,7 @@ event-at-requires : tie.Need-event-at-requires
 event-at-requires c κs = omega (arith, c .before .before .before .before .before .before .pre .0 .room, c .before .before .before .before .before .before .pre .0 .long, next c)
 
 sought-of-requires : tie.Need-sought-of-requires
-sought-of-requires c κs = (c .before .before .before .before .before .before .before .pre .0 .mapped, rw (next-is c) (c .before .before .before .before .before .before .before .pre .0 .ranges (c .before .before .before .before .before .before .before .args .from + 1) (next (c .before))))
+sought-of-requires c κs = (c .before .before .before .before .before .before .before .pre .0 .mapped .mapped, rw (next-is c) (c .before .before .before .before .before .before .before .pre .0 .ranges (c .before .before .before .before .before .before .before .args .from + 1) (next (c .before))))
 
 reach-paired-requires : tie.Need-reach-paired-requires
 reach-paired-requires c κs = c .before .before .before .before .before .before .before .before .pre .0 .isWhole
