@@ -152,6 +152,10 @@ derive-modifier (Written.Modifier.keysym false w) bs r h a b =
     DerivesModifier.plain
     (derive-keysym false w bs r (both-left (isSome w) (all letterOrDigit w) h) (both-right (isSome w) (all letterOrDigit w) h) a b)
 
+-- the first byte of a list is a letter, `~`, `@` or `<`
+abbrev starts : ℕ → Bool
+starts b = letterOrDigit b || (isCode b "~" || (isCode b "@" || isCode b "<"))
+
 module _ (r : List ℕ) where
   abbrev rest : List Written.Modifier → List ℕ
   rest ms = behind (bytes " ") (each modifierText ms) ++ (code "<" ∷ r)
@@ -187,10 +191,6 @@ module _ (r : List ℕ) where
       rw (first-text m ms)
       (DerivesModifiers.more (derive-modifier m [] (rest ms) (both-left (wellWritten m) (all wellWritten ms) w) refl (rest-stops ms)) (rest-parts ms)
       (derive-rest ms (both-right (wellWritten m) (all wellWritten ms) w)))
-
-  -- the first byte is a letter, `~`, `@` or `<`
-  abbrev starts : ℕ → Bool
-  starts b = letterOrDigit b || (isCode b "~" || (isCode b "@" || isCode b "<"))
 
   name-starts : (w m : List ℕ) → all letterOrDigit w ≡ true → isSome w ≡ true → beginsWith starts (w ++ m) ≡ true
   name-starts [] m p s = absurd (false≢true s)

@@ -239,7 +239,7 @@ named-none f h ss [] = refl
 named-none f h ss (k ∷ ks) = ap (λ (l : List ℕ). keysymsFrom l (map f ks)) (h ss k) ∙ named-none f h ss ks
 
 -- it is there where the first slot is used
-first-used : (ss : List ℕ) → Rising ss → isEmpty ss ≡ eqb (getD ss 0 0) 0
+pub first-used : (ss : List ℕ) → Rising ss → isEmpty ss ≡ eqb (getD ss 0 0) 0
 first-used [] r = refl
 first-used (s ∷ ss) r = sym (ne-eqb s 0 (λ q. omega (arith, r .0 .0)))
 
