@@ -187,9 +187,10 @@ gathered-below setting ns by e = (
 
 pub asked-below : (setting : Setting) (e : KeptEvent) (by : Resolved) → by ≡ resolvedTest (asked setting e) → (by .set < 8192) × (by .clear < 8192)
 unfolding asked
-asked-below setting e by q =
-    (rw (ap (λ (r : Resolved). r .set) q) (mask-below (asksBitSet setting e)),
-      rw (ap (λ (r : Resolved). r .clear) q) (mask-below (asksBitClear setting e)))
+asked-below setting e by q = (
+  rw (ap (λ (r : Resolved). r .set) q) (mask-below (asksBitSet setting e)),
+  rw (ap (λ (r : Resolved). r .clear) q) (mask-below (asksBitClear setting e)),
+)
 
 -- ---- An event without names
 
