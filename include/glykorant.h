@@ -27,14 +27,21 @@ extern "C" {
 
 /* A table, whatever it holds. A lent buffer may be longer: bytes past the
  * table are neither read nor written. */
-#define TT_TABLE_LENGTH 5904
+#define TT_TABLE_LENGTH 10000
 
 /* A matcher's state. Bytes past it are neither read nor written. */
 #define TT_STATE_LENGTH 200
 
-/* A keyboard map, exactly: for each keycode 8..255 two keysyms of 32 bits,
- * the unshifted and the shifted one, the least significant byte first. */
+/* A keyboard map: for each keycode 8..255 two keysyms of 32 bits, the
+ * unshifted and the shifted one, the least significant byte first. */
 #define TT_MAP_LENGTH 1984
+
+/* A modifier map with one keycode a row, and with eight, the most there are:
+ * eight rows of 1 to 8 keycodes, those of Shift, Lock, Control and Mod1 to
+ * Mod5, as the reply to GetModifierMapping has them; 0 stands for no key. It
+ * follows the keyboard map in one buffer of maps. */
+#define TT_MODIFIERS_LEAST 8
+#define TT_MODIFIERS_MOST 64
 
 /* An event as the server sends it, exactly. */
 #define TT_RECORD_LENGTH 32
@@ -46,7 +53,7 @@ extern "C" {
 
 enum tt_number {
     TT_ACCEPTED = 0,
-    /* A lent buffer is too short, or the keyboard map is not 1,984 bytes. */
+    /* A lent buffer is too short; the maps are below 1,984 bytes. */
     TT_SHORT_BUFFER = 1,
     /* The text is over 8,192 bytes. */
     TT_LONG_TEXT = 2,
@@ -67,9 +74,10 @@ enum tt_number {
     TT_IMPOSSIBLE_TEST = 8,
     /* A colon on a non-key event, or Shift or Lock beside a colon. */
     TT_MISPLACED_COLON = 9,
-    /* A form that is not built yet. */
+    /* A form that is not built yet: an atom's name as a detail, `+`. */
     TT_NOT_BUILT = 10,
-    /* A limit on productions, events, calls or parameters is passed. */
+    /* A limit on productions, events, calls or parameters is passed, or an
+     * event names over four keysyms after `@`. */
     TT_PAST_LIMIT = 11,
     /* The table's bytes are no table, or a lent text is shorter than the
      * table says. */
@@ -87,7 +95,10 @@ enum tt_number {
     /* The production, call or parameter that is asked for is not there. */
     TT_NOT_THERE = 16,
     /* A table to merge is itself the result of a merge. */
-    TT_ALREADY_MERGED = 17
+    TT_ALREADY_MERGED = 17,
+    /* What follows the keyboard map is not 8, 16, .. 64 bytes, or has an
+     * entry 1..7. */
+    TT_BAD_MODIFIER_MAP = 18
 };
 
 /* The number of an answer. */
@@ -186,12 +197,15 @@ uint64_t tt_fresh(uint8_t *state, size_t state_length);
  * the production + 1. Two clicks pair where they come less than `time`
  * milliseconds apart. `order` is the byte order of the record, 'l' for the
  * least significant byte first and 'B' for the most significant.
- * Refused with 1, 12, 14, 13, 15, in this order. After a refusal, and after
+ * `maps` is the keyboard map and, directly after it, the modifier map. Meta,
+ * Alt, Hyper, Super and `@` with a keysym stand for the modifiers in whose
+ * rows a key has such a keysym, so the same table serves any keyboard.
+ * Refused with 1, 18, 12, 14, 13, 15, in this order. After a refusal, and after
  * an event whose type no production has, the state is unchanged; after any
  * other call it is the state for the next event.
  */
 uint64_t tt_match(const uint8_t *table, size_t table_length,
-                  const uint8_t *map, size_t map_length,
+                  const uint8_t *maps, size_t maps_length,
                   uint32_t time,
                   uint8_t *state, size_t state_length,
                   const uint8_t *record, size_t record_length,

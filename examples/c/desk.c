@@ -1,31 +1,54 @@
-/* A quota desk in C: a click looks at a bucket, a double click grants space. */
+/* A quota desk in C: a click looks at a bucket, a double click grants space, and Meta Return does so too. */
 #include "glykorant.h"
 
 #include <stdint.h>
 #include <stdio.h>
 #include <string.h>
 
-enum { BUTTON_PRESS = 4, BUTTON_RELEASE = 5, MULTI_CLICK_TIME = 200 };
+enum { KEY_PRESS = 2, BUTTON_PRESS = 4, BUTTON_RELEASE = 5, MULTI_CLICK_TIME = 200 };
+enum { RETURN = 36, META = 64, MOD1 = 3 }; /* two keycodes, and Mod1's bit and row */
 
 static const char text[] =
     "<Btn1Down>(2): grant(space, \"10 GB\")\n"
-    "<Btn1Down>:    look(bucket)\n";
+    "<Btn1Down>:    look(bucket)\n"
+    "Meta<Key>Return: grant(space, \"1 GB\")\n";
 
 static uint8_t table[TT_TABLE_LENGTH];
 static uint8_t state[TT_STATE_LENGTH];
-static uint8_t map[TT_MAP_LENGTH]; /* no keys: this table has none */
+static uint8_t maps[TT_MAP_LENGTH + TT_MODIFIERS_LEAST];
 
 static const uint8_t *text_bytes(void) { return (const uint8_t *)text; }
 static size_t text_length(void) { return strlen(text); }
 
-/* A button event as the server sends it, least significant byte first. */
-static void button_event(uint8_t record[TT_RECORD_LENGTH], uint8_t code, uint32_t time)
+/* The first keysym of a keycode. */
+static void put_keysym(int keycode, uint32_t keysym)
+{
+    for (int i = 0; i < 4; i++)
+        maps[8 * (keycode - 8) + i] = (uint8_t)(keysym >> (8 * i));
+}
+
+/* A keyboard with Return, and with a left Meta that is Mod1. */
+static void put_maps(void)
+{
+    put_keysym(RETURN, 0xff0d);
+    put_keysym(META, 0xffe7);
+    maps[TT_MAP_LENGTH + MOD1] = META;
+}
+
+/* A key or button event as the server sends it, least significant byte first. */
+static void input_event(uint8_t record[TT_RECORD_LENGTH], uint8_t code, uint8_t detail, uint8_t modifiers, uint32_t time)
 {
     memset(record, 0, TT_RECORD_LENGTH);
     record[0] = code;
-    record[1] = 1;
+    record[1] = detail;
+    record[28] = modifiers;
     for (int i = 0; i < 4; i++)
         record[4 + i] = (uint8_t)(time >> (8 * i));
+}
+
+static const char *kind(uint8_t code)
+{
+    return code == KEY_PRESS ? "key" : code == BUTTON_PRESS ? "press" : "release";
 }
 
 /* A part of the text. The table is not merged, so every part is one of its first text. */
@@ -46,11 +69,11 @@ static void put_call(size_t production, size_t call)
 }
 
 /* Hears one event, and prints the calls of the production that it selects. */
-static void hear(uint8_t code, uint32_t time)
+static void hear(uint8_t code, uint8_t detail, uint8_t modifiers, uint32_t time)
 {
     uint8_t record[TT_RECORD_LENGTH];
-    button_event(record, code, time);
-    uint64_t answer = tt_match(table, sizeof table, map, sizeof map, MULTI_CLICK_TIME,
+    input_event(record, code, detail, modifiers, time);
+    uint64_t answer = tt_match(table, sizeof table, maps, sizeof maps, MULTI_CLICK_TIME,
                                state, sizeof state, record, sizeof record, 'l');
     if (TT_NUMBER(answer) != TT_ACCEPTED) {
         printf("refused with %u\n", TT_NUMBER(answer));
@@ -61,7 +84,7 @@ static void hear(uint8_t code, uint32_t time)
         return;
     size_t calls = TT_VALUE(tt_calls(table, sizeof table, selected - 1));
     for (size_t i = 0; i < calls; i++) {
-        printf("%s at %lu: ", code == BUTTON_PRESS ? "press" : "release", (unsigned long)time);
+        printf("%s at %lu: ", kind(code), (unsigned long)time);
         put_call(selected - 1, i);
     }
 }
@@ -73,12 +96,15 @@ int main(void)
         printf("refused with %u at byte %u\n", TT_NUMBER(answer), (unsigned)TT_VALUE(answer));
         return 1;
     }
+    put_maps();
     tt_fresh(state, sizeof state);
-    hear(BUTTON_PRESS, 1000);
-    hear(BUTTON_RELEASE, 1040);
-    hear(BUTTON_PRESS, 1120);
-    hear(BUTTON_RELEASE, 1160);
-    hear(BUTTON_PRESS, 5000);
-    hear(BUTTON_RELEASE, 5040);
+    hear(BUTTON_PRESS, 1, 0, 1000);
+    hear(BUTTON_RELEASE, 1, 0, 1040);
+    hear(BUTTON_PRESS, 1, 0, 1120);
+    hear(BUTTON_RELEASE, 1, 0, 1160);
+    hear(BUTTON_PRESS, 1, 0, 5000);
+    hear(BUTTON_RELEASE, 1, 0, 5040);
+    hear(KEY_PRESS, RETURN, 0, 6000);
+    hear(KEY_PRESS, RETURN, 1 << MOD1, 6100);
     return 0;
 }

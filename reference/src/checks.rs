@@ -1,4 +1,4 @@
-//! Checks on generated cases of what 01 says of any table and any list of events.
+//! Checks on generated cases of what 01 and 02 say of any table and any list of events.
 
 use crate::calls::{self, Texts};
 use crate::compiling::compile;
@@ -177,7 +177,7 @@ impl Outcome {
 }
 
 fn outcomes(table: &Table, list: &EventList, calls: &[RecordCall]) -> (Vec<Outcome>, Vec<Event>) {
-    let mut matcher = Matcher::new(table, &list.map, list.multi_click_time);
+    let mut matcher = Matcher::new(table, list.maps(), list.multi_click_time);
     let outcome = |call: &RecordCall| {
         let (number, selected) = matcher.call(&call.record, call.order);
         let context = matcher
@@ -204,7 +204,8 @@ fn check_list(
     check_selections(&outcomes)?;
     check_untested_bits(table, list, random, &outcomes)?;
     check_moved_times(table, list, random, &outcomes)?;
-    statistics.count_outcomes(&outcomes, &history);
+    statistics.count_outcomes(table, &outcomes, &history);
+    statistics.count_names(table, list.maps());
     statistics.count_clicks(&history, list.multi_click_time);
     Ok(())
 }
@@ -244,14 +245,18 @@ fn check_selections(outcomes: &[Outcome]) -> Checked<()> {
     Ok(())
 }
 
-/// State bits that the table does not test change nothing.
+/// State bits that the table does not test under the maps change nothing. Under maps that are
+/// refused none does.
 fn check_untested_bits(
     table: &Table,
     list: &EventList,
     random: &mut Random,
     expected: &[Outcome],
 ) -> Checked<()> {
-    let untested = !tested_bits(table);
+    let untested = match list.maps().check() {
+        Ok(()) => !tested_bits(table, list.maps()),
+        Err(_) => !0,
+    };
     check_alike(table, list, expected, |call| {
         call.with_state_bits_turned(random.card16() & untested)
     })

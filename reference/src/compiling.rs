@@ -1,10 +1,10 @@
-//! The compiler, and the order of its checks (01, "Numbers handed back").
+//! The compiler, and the order of its checks (01, "Numbers handed back"; 02, R-1).
 
 use crate::counts;
 use crate::details::{self, Detail};
 use crate::limits;
-use crate::modifiers::{Listed, ModifierTest, CTRL, SHIFT, STANDARD};
-use crate::names::{self, Adds, EventType};
+use crate::modifiers::{Listed, ListedName, ModifierTest, CTRL, SHIFT, STANDARD};
+use crate::names::{self, Adds, EventType, Name};
 use crate::numbers::{Number, Refusal};
 use crate::table::{EventSpec, Production, Table};
 use crate::text::{self, Description, KeyCharacter, WrittenEvent};
@@ -66,7 +66,7 @@ fn production(text: &[u8], line: Range<usize>) -> Result<Production, Number> {
 fn event(written: &WrittenEvent) -> Result<EventSpec, Number> {
     match written {
         WrittenEvent::Described(description) => described(description),
-        WrittenEvent::KeyCharacter(character) => key_character(character),
+        WrittenEvent::KeyCharacter(character) => Ok(key_character(character)),
     }
 }
 
@@ -78,13 +78,12 @@ fn described(written: &Description) -> Result<EventSpec, Number> {
     let detail = details::read(event_type, written.detail)?;
 
     let count = counts::read(code, written.count.as_ref())?;
-    if detail == Detail::TooLarge {
+    if detail == Detail::TooLarge || listed.too_large {
         return Err(Number::BadNumber);
     }
 
     let plus = written.count.as_ref().is_some_and(|count| count.plus);
-    let meta = listed.not_built || event_type.adds == Adds::NotBuilt;
-    if meta || plus || detail == Detail::NotBuilt {
+    if plus || detail == Detail::NotBuilt {
         return Err(Number::NotBuilt);
     }
 
@@ -96,15 +95,15 @@ fn described(written: &Description) -> Result<EventSpec, Number> {
         return Err(Number::ColonNotTaken);
     }
 
-    let test = ModifierTest::new(&listed, event_type.adds);
-    if !test.can_hold() {
+    // "8 as if these names weren't there."
+    if !listed.asked(event_type.adds).can_hold() {
         return Err(Number::NoStateMeets);
     }
 
     Ok(EventSpec {
         code,
         count,
-        test,
+        test: ModifierTest::new(&listed, event_type.adds),
         detail: detail.value(),
     })
 }
@@ -114,20 +113,21 @@ fn takes_colon(listed: &Listed, event_type: &EventType) -> bool {
     names::is_key(event_type.code) && !listed.lists(STANDARD) && event_type.adds != Adds::Bit(SHIFT)
 }
 
-/// A character of a key sequence is a KeyPress; `^` adds Ctrl, and `$` is not built.
-fn key_character(written: &KeyCharacter) -> Result<EventSpec, Number> {
-    let set = match written.mark {
-        Some(b'$') => return Err(Number::NotBuilt),
-        Some(b'^') => CTRL,
-        _ => 0,
-    };
-    Ok(EventSpec {
+/// A character of a key sequence is a KeyPress; `^` adds Ctrl, and `$` reads as Meta listed.
+fn key_character(written: &KeyCharacter) -> EventSpec {
+    let mut test = ModifierTest::default();
+    match written.mark {
+        Some(b'^') => test.set = CTRL,
+        Some(b'$') => test.names.push(ListedName {
+            name: Name::Meta,
+            negated: false,
+        }),
+        _ => {}
+    }
+    EventSpec {
         code: names::KEY_PRESS,
         count: 1,
-        test: ModifierTest {
-            set,
-            ..ModifierTest::default()
-        },
+        test,
         detail: Some(u32::from(written.byte)),
-    })
+    }
 }

@@ -19,7 +19,7 @@ pub fn read(code: u8, written: Option<&WrittenCount>) -> Result<u8, Number> {
 }
 
 /// One event of an expanded production.
-#[derive(Clone, Copy, Debug, PartialEq, Eq)]
+#[derive(Clone, Debug, PartialEq, Eq)]
 pub struct Element {
     pub code: u8,
     pub spec: EventSpec,
@@ -45,7 +45,7 @@ fn expand(events: &[EventSpec]) -> Vec<Element> {
             let timed = code == spec.code && at >= 2;
             elements.push(Element {
                 code,
-                spec: *spec,
+                spec: spec.clone(),
                 timed_from: timed.then(|| first + at - 2),
             });
         }

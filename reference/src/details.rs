@@ -117,7 +117,8 @@ pub fn read(event_type: &EventType, written: Option<&[u8]>) -> Result<Detail, Nu
     read.ok_or(Number::UnknownName)
 }
 
-fn keysym(written: &[u8]) -> Option<Detail> {
+/// A key's detail, or the run after `@`, which "is read as a key detail is" (02, R-1).
+pub fn keysym(written: &[u8]) -> Option<Detail> {
     match written {
         [character] => Some(Detail::Value(u32::from(*character))),
         [b'0', b'x' | b'X', digits @ ..] => number(digits, 16, LARGEST_KEYSYM),

@@ -2,13 +2,16 @@
 //! proved code.
 
 use crate::counts;
+use crate::details::LARGEST_KEYSYM;
+use crate::keyboard::MAP_LENGTH;
 use crate::limits;
-use crate::modifiers::{ModifierTest, ALL};
-use crate::names;
+use crate::modifiers::{ListedName, ModifierTest, ALL};
+use crate::names::{self, Name, RELATIVES};
 use crate::records::Event;
+use crate::resolving::Maps;
 use crate::table::{Call, Directive, EventSpec, Production, Span, Table};
 
-pub const TABLE_BYTES: usize = 5904;
+pub const TABLE_BYTES: usize = 10_000;
 pub const STATE_BYTES: usize = 200;
 const TABLE_WORDS: usize = TABLE_BYTES / 2;
 
@@ -37,15 +40,32 @@ pub mod sections {
     pub const FLAGS: Section = section(1160, 256);
     pub const DETAIL_LOW: Section = section(1416, 256);
     pub const DETAIL_HIGH: Section = section(1672, 256);
-    pub const MARK: Section = section(1928, 128);
-    pub const NAME_START: Section = section(2056, 128);
-    pub const NAME_LENGTH: Section = section(2184, 128);
-    pub const CALL_PARAMETERS: Section = section(2312, 128);
-    pub const PARAMETER_START: Section = section(2440, 256);
-    pub const PARAMETER_LENGTH: Section = section(2696, 256);
+    /// The low and the high words of each keysym slot.
+    pub const SLOTS: [[Section; 2]; 4] = [
+        [section(1928, 256), section(2184, 256)],
+        [section(2440, 256), section(2696, 256)],
+        [section(2952, 256), section(3208, 256)],
+        [section(3464, 256), section(3720, 256)],
+    ];
+    pub const MARK: Section = section(3976, 128);
+    pub const NAME_START: Section = section(4104, 128);
+    pub const NAME_LENGTH: Section = section(4232, 128);
+    pub const CALL_PARAMETERS: Section = section(4360, 128);
+    pub const PARAMETER_START: Section = section(4488, 256);
+    pub const PARAMETER_LENGTH: Section = section(4744, 256);
 
     pub const OF_PRODUCTIONS: [Section; 2] = [PRODUCTION_EVENTS, PRODUCTION_CALLS];
     pub const OF_EVENTS: [Section; 7] = [CODE, COUNT, SET, CLEAR, FLAGS, DETAIL_LOW, DETAIL_HIGH];
+    pub const OF_SLOTS: [Section; 8] = [
+        SLOTS[0][0],
+        SLOTS[0][1],
+        SLOTS[1][0],
+        SLOTS[1][1],
+        SLOTS[2][0],
+        SLOTS[2][1],
+        SLOTS[3][0],
+        SLOTS[3][1],
+    ];
     pub const OF_CALLS: [Section; 4] = [MARK, NAME_START, NAME_LENGTH, CALL_PARAMETERS];
     pub const OF_PARAMETERS: [Section; 2] = [PARAMETER_START, PARAMETER_LENGTH];
 }
@@ -66,6 +86,20 @@ const PARAMETERS: usize = 7;
 const COLON: u16 = 1;
 const CLAUSE: u16 = 2;
 const DETAIL: u16 = 4;
+const EXCLAMATION: u16 = 8;
+/// Meta, Alt, Hyper and Super, listed without `~` and with it.
+const RELATIVE: [u16; 4] = [1 << 8, 1 << 9, 1 << 10, 1 << 11];
+const NEGATED_RELATIVE: [u16; 4] = [1 << 12, 1 << 13, 1 << 14, 1 << 15];
+const NO_FLAGS: u16 = 0xF0;
+
+/// A used keysym slot is a keysym with one of these added, or both: listed without `~`, with it.
+const LISTED: u32 = 0x2000_0000;
+const NEGATED: u32 = 0x4000_0000;
+const PAST_SLOT: u32 = 0x8000_0000;
+
+fn keysym(slot: u32) -> u32 {
+    slot & LARGEST_KEYSYM
+}
 
 /// How many words are used of the sections of productions, events, calls and parameters.
 #[derive(Clone, Copy, Debug)]
@@ -129,9 +163,15 @@ pub fn encode(table: &Table) -> Vec<u8> {
 
 fn put_event(words: &mut Written, at: usize, spec: &EventSpec) {
     let flag = |there: bool, flag: u16| if there { flag } else { 0 };
-    let flags = flag(spec.test.colon, COLON)
+    let lists = |name: Name, negated: bool| spec.test.names.contains(&ListedName { name, negated });
+    let mut flags = flag(spec.test.colon, COLON)
         | flag(spec.test.clause, CLAUSE)
-        | flag(spec.detail.is_some(), DETAIL);
+        | flag(spec.detail.is_some(), DETAIL)
+        | flag(spec.test.exclamation, EXCLAMATION);
+    for (which, name) in RELATIVES.into_iter().enumerate() {
+        flags |= flag(lists(name, false), RELATIVE[which]);
+        flags |= flag(lists(name, true), NEGATED_RELATIVE[which]);
+    }
     let detail = spec.detail.unwrap_or(0);
     words.put(CODE, at, usize::from(spec.code));
     words.put(COUNT, at, usize::from(spec.count));
@@ -140,6 +180,17 @@ fn put_event(words: &mut Written, at: usize, spec: &EventSpec) {
     words.put(FLAGS, at, usize::from(flags));
     words.put(DETAIL_LOW, at, (detail & 0xFFFF) as usize);
     words.put(DETAIL_HIGH, at, (detail >> 16) as usize);
+    let keysyms = spec.test.keysyms();
+    assert!(keysyms.len() <= SLOTS.len(), "an event has four slots");
+    for ([low, high], keysym) in SLOTS.into_iter().zip(keysyms) {
+        let mark = |negated, mark| match lists(Name::Keysym(keysym), negated) {
+            true => mark,
+            false => 0,
+        };
+        let slot = keysym + mark(false, LISTED) + mark(true, NEGATED);
+        words.put(low, at, (slot & 0xFFFF) as usize);
+        words.put(high, at, (slot >> 16) as usize);
+    }
 }
 
 struct Written(Vec<u16>);
@@ -228,6 +279,7 @@ impl Reader<'_> {
         let unused_are_zero = [
             (OF_PRODUCTIONS.as_slice(), used.productions),
             (&OF_EVENTS, used.events),
+            (&OF_SLOTS, used.events),
             (&OF_CALLS, used.calls),
             (&OF_PARAMETERS, used.parameters),
         ]
@@ -254,7 +306,8 @@ impl Reader<'_> {
             require(calls <= limits::CALLS_IN_PRODUCTION && call + calls <= self.used.calls)?;
             let mut length = 0;
             for at in event..event + events {
-                length += counts::expanded_length(&self.event(at)?);
+                length += counts::expanded_length(&self.event_without_names(at)?);
+                self.slots(at)?;
             }
             require(length <= limits::EVENTS_IN_PRODUCTION)?;
             for at in call..call + calls {
@@ -298,6 +351,12 @@ impl Reader<'_> {
     }
 
     fn event(&self, at: usize) -> Option<EventSpec> {
+        let mut spec = self.event_without_names(at)?;
+        spec.test.names = self.names(at)?;
+        Some(spec)
+    }
+
+    fn event_without_names(&self, at: usize) -> Option<EventSpec> {
         let word = |section| self.words.get(section, at);
         let code = within(
             word(CODE),
@@ -308,7 +367,8 @@ impl Reader<'_> {
         let count = within(word(COUNT), 1, most)? as u8;
         let set = within(word(SET), 0, usize::from(ALL))? as u16;
         let clear = within(word(CLEAR), 0, usize::from(ALL))? as u16;
-        let flags = within(word(FLAGS), 0, 7)? as u16;
+        let flags = word(FLAGS) as u16;
+        require(flags & NO_FLAGS == 0)?;
         let detail = word(DETAIL_LOW) + (word(DETAIL_HIGH) << 16);
         let largest = if flags & DETAIL != 0 { 0x1FFF_FFFF } else { 0 };
         let detail = within(detail, 0, largest)? as u32;
@@ -320,9 +380,45 @@ impl Reader<'_> {
                 clear,
                 colon: flags & COLON != 0,
                 clause: flags & CLAUSE != 0,
+                exclamation: flags & EXCLAMATION != 0,
+                names: Vec::new(),
             },
             detail: (flags & DETAIL != 0).then_some(detail),
         })
+    }
+
+    /// The keysym slots of an event, if they are in range: "used slots come first, keysyms
+    /// strictly rising".
+    fn slots(&self, at: usize) -> Option<[u32; 4]> {
+        let word = |section| self.words.get(section, at) as u32;
+        let slots = SLOTS.map(|[low, high]| word(low) + (word(high) << 16));
+        let first_unused = slots.iter().position(|&slot| slot == 0);
+        let (used, unused) = slots.split_at(first_unused.unwrap_or(SLOTS.len()));
+        require(unused.iter().all(|&slot| slot == 0))?;
+        require(used.iter().all(|slot| (LISTED..PAST_SLOT).contains(slot)))?;
+        require(used.windows(2).all(|two| keysym(two[0]) < keysym(two[1])))?;
+        Some(slots)
+    }
+
+    /// An event's names: the relatives of its flags, then its keysyms.
+    fn names(&self, at: usize) -> Option<Vec<ListedName>> {
+        let flags = self.words.get(FLAGS, at) as u16;
+        let mut names = Vec::new();
+        let mut list = |there: bool, name: Name, negated: bool| {
+            if there {
+                names.push(ListedName { name, negated });
+            }
+        };
+        for (which, name) in RELATIVES.into_iter().enumerate() {
+            list(flags & RELATIVE[which] != 0, name, false);
+            list(flags & NEGATED_RELATIVE[which] != 0, name, true);
+        }
+        for slot in self.slots(at)? {
+            let name = Name::Keysym(keysym(slot));
+            list(slot & LISTED != 0, name, false);
+            list(slot & NEGATED != 0, name, true);
+        }
+        Some(names)
     }
 
     /// How many parameters a call has, if it and they are in range.
@@ -363,6 +459,22 @@ impl Reader<'_> {
         };
         (span.start + span.length <= self.text_lengths[text]).then_some(span)
     }
+}
+
+/// The bytes of the maps: four for each number of the keyboard map, least significant first, then
+/// the modifier map's.
+pub fn encode_maps(maps: Maps) -> Vec<u8> {
+    let numbers = maps.keyboard.iter().flat_map(|number| number.to_le_bytes());
+    numbers.chain(maps.modifiers.iter().copied()).collect()
+}
+
+/// The keyboard map and the modifier map that bytes are. Where they are too short for 496 numbers
+/// the keyboard map is too.
+pub fn decode_maps(bytes: &[u8]) -> (Vec<u32>, &[u8]) {
+    let (numbers, modifiers) = bytes.split_at(bytes.len().min(4 * MAP_LENGTH));
+    let numbers = numbers.chunks_exact(4);
+    let keyboard = numbers.map(|four| u32::from_le_bytes([four[0], four[1], four[2], four[3]]));
+    (keyboard.collect(), modifiers)
 }
 
 /// What a matcher state stands for: the events of the open context, and how many of them lie at

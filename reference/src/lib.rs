@@ -1,7 +1,8 @@
 //! A second implementation of X translation tables, written from document 01 ("01" below),
-//! the readings of it and Appendix B ("001"), as plainly as they read.
+//! request R-1 of document 02 ("02"), the readings of both and Appendix B ("001"), as plainly as
+//! they read.
 //!
-//! Each module holds one section, or one part of a section, of 01.
+//! Each module holds one section, or one part of a section, of 01, or what a request adds.
 
 pub mod calls;
 pub mod compiling;
@@ -15,6 +16,7 @@ pub mod modifiers;
 pub mod names;
 pub mod numbers;
 pub mod records;
+pub mod resolving;
 pub mod selection;
 pub mod table;
 pub mod text;
@@ -32,6 +34,7 @@ pub use compiling::compile;
 pub use merging::merge;
 pub use numbers::{Number, Refusal};
 pub use records::{read_record, Event};
+pub use resolving::Maps;
 pub use selection::{BoundedMatcher, Matcher};
 pub use table::{Call, Directive, EventSpec, Production, Span, Table};
 pub use writing::write;

@@ -1,7 +1,7 @@
-//! The limits (01, "What is built").
+//! The limits (01, "What is built"; 02, R-1).
 
 use crate::counts;
-use crate::table::Production;
+use crate::table::{EventSpec, Production};
 
 pub const TEXT_BYTES: usize = 8192;
 pub const PRODUCTIONS: usize = 64;
@@ -11,6 +11,8 @@ pub const CALLS_IN_PRODUCTION: usize = 8;
 pub const CALLS: usize = 128;
 pub const PARAMETERS_IN_CALL: usize = 8;
 pub const PARAMETERS: usize = 256;
+/// "Over four different keysyms in an event is 11."
+pub const KEYSYMS_IN_EVENT: usize = 4;
 
 /// Whether the productions pass a limit (number 11).
 pub fn passed(productions: &[Production]) -> bool {
@@ -23,11 +25,16 @@ pub fn passed(productions: &[Production]) -> bool {
 
 fn production_passes(production: &Production) -> bool {
     events(production) > EVENTS_IN_PRODUCTION
+        || production.events.iter().any(event_passes)
         || calls(production) > CALLS_IN_PRODUCTION
         || production
             .calls
             .iter()
             .any(|call| call.parameters.len() > PARAMETERS_IN_CALL)
+}
+
+fn event_passes(spec: &EventSpec) -> bool {
+    spec.test.keysyms().len() > KEYSYMS_IN_EVENT
 }
 
 /// The number of all productions' items of one kind.

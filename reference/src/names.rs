@@ -1,4 +1,5 @@
-//! Names of modifiers and event types (01, "The text"; 001, "Modifier Names", "Event Types").
+//! Names of modifiers and event types (01, "The text"; 001, "Modifier Names", "Event Types"; 02,
+//!
 
 use crate::modifiers::{
     BUTTON1, BUTTON2, BUTTON3, BUTTON4, BUTTON5, CTRL, LOCK, MOD1, MOD2, MOD3, MOD4, MOD5, SHIFT,
@@ -34,16 +35,53 @@ pub fn has_state(code: u8) -> bool {
     (KEY_PRESS..=LEAVE_NOTIFY).contains(&code)
 }
 
+/// A modifier that has bits only under a keyboard's maps (02, R-1). The order is the writer's.
+#[derive(Clone, Copy, Debug, PartialEq, Eq, PartialOrd, Ord)]
+pub enum Name {
+    Meta,
+    Alt,
+    Hyper,
+    Super,
+    /// `@` with a keysym.
+    Keysym(u32),
+}
+
+/// Meta and its relatives, without `@`.
+pub const RELATIVES: [Name; 4] = [Name::Meta, Name::Alt, Name::Hyper, Name::Super];
+
+impl Name {
+    /// The keysyms that the name means, the left and the right one (values from keysymdef.h).
+    pub fn keysyms(self) -> [u32; 2] {
+        match self {
+            Name::Meta => [0xFFE7, 0xFFE8],
+            Name::Alt => [0xFFE9, 0xFFEA],
+            Name::Hyper => [0xFFED, 0xFFEE],
+            Name::Super => [0xFFEB, 0xFFEC],
+            Name::Keysym(keysym) => [keysym, keysym],
+        }
+    }
+
+    /// The name as the writer gives it: "`@` with hexadecimal keysyms".
+    pub fn canonical(self) -> String {
+        match self {
+            Name::Meta => "Meta".to_string(),
+            Name::Alt => "Alt".to_string(),
+            Name::Hyper => "Hyper".to_string(),
+            Name::Super => "Super".to_string(),
+            Name::Keysym(keysym) => format!("@{keysym:#x}"),
+        }
+    }
+}
+
 /// What a modifier name stands for.
 #[derive(Clone, Copy, Debug, PartialEq, Eq)]
 pub enum Modifier {
     Bit(u16),
-    /// Meta and its relatives (number 10).
-    NotBuilt,
+    Name(Name),
 }
 
-/// The canonical names in the writer's order, their short forms, and what is not built.
-/// `None` and `Any` are the grammar's.
+/// The canonical names of bits in the writer's order, their short forms, and Meta and its
+/// relatives. `None` and `Any` are the grammar's.
 pub const MODIFIERS: &[(&str, Modifier)] = &[
     ("Ctrl", Modifier::Bit(CTRL)),
     ("Shift", Modifier::Bit(SHIFT)),
@@ -61,19 +99,19 @@ pub const MODIFIERS: &[(&str, Modifier)] = &[
     ("c", Modifier::Bit(CTRL)),
     ("s", Modifier::Bit(SHIFT)),
     ("l", Modifier::Bit(LOCK)),
-    ("Meta", Modifier::NotBuilt),
-    ("m", Modifier::NotBuilt),
-    ("Hyper", Modifier::NotBuilt),
-    ("h", Modifier::NotBuilt),
-    ("Super", Modifier::NotBuilt),
-    ("su", Modifier::NotBuilt),
-    ("Alt", Modifier::NotBuilt),
-    ("a", Modifier::NotBuilt),
+    ("Meta", Modifier::Name(Name::Meta)),
+    ("m", Modifier::Name(Name::Meta)),
+    ("Hyper", Modifier::Name(Name::Hyper)),
+    ("h", Modifier::Name(Name::Hyper)),
+    ("Super", Modifier::Name(Name::Super)),
+    ("su", Modifier::Name(Name::Super)),
+    ("Alt", Modifier::Name(Name::Alt)),
+    ("a", Modifier::Name(Name::Alt)),
 ];
 
-/// The canonical names are the first so many of `MODIFIERS`, those that are built so many.
+/// The canonical names of bits are the first so many of `MODIFIERS`, all names of bits so many.
 pub const CANONICAL_MODIFIERS: usize = 13;
-pub const BUILT_MODIFIERS: usize = 16;
+pub const BIT_MODIFIERS: usize = 16;
 
 pub fn modifier(name: &[u8]) -> Option<Modifier> {
     MODIFIERS
@@ -89,8 +127,8 @@ pub enum Adds {
     Bit(u16),
     /// `<BtnMotion>`: at least one button.
     AnyButton,
-    /// `<Meta>` (number 10).
-    NotBuilt,
+    /// `<Meta>`: "`<Meta>` and `$` read as Meta listed".
+    Name(Name),
 }
 
 /// A name of an event type.
@@ -176,7 +214,7 @@ pub const EVENT_TYPES: &[EventType] = &[
     plain("Mapping", 34),
     // Abbreviations.
     adding("Ctrl", 2, Adds::Bit(CTRL)),
-    adding("Meta", 2, Adds::NotBuilt),
+    adding("Meta", 2, Adds::Name(Name::Meta)),
     adding("Shift", 2, Adds::Bit(SHIFT)),
     fixing("Btn1Down", 4, 1),
     fixing("Btn1Up", 5, 1),

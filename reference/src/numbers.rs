@@ -1,6 +1,6 @@
-//! The numbers handed back (01, "Numbers handed back").
+//! The numbers handed back (01, "Numbers handed back"; 02).
 
-/// A number of 01's table.
+/// A number of 01's table, or one that 02 adds.
 ///
 /// `ShortBuffer` is given here only for a keyboard map, and `StateNotWhole` never: other
 /// memory is not lent to this library, and its types admit no other broken state.
@@ -25,10 +25,11 @@ pub enum Number {
     ContextTooLong = 15,
     NotThere = 16,
     AlreadyMerged = 17,
+    BadModifierMap = 18,
 }
 
 impl Number {
-    pub const COUNT: usize = Number::AlreadyMerged as usize + 1;
+    pub const COUNT: usize = Number::BadModifierMap as usize + 1;
 
     pub fn index(self) -> usize {
         self as usize

@@ -1,47 +1,71 @@
-//! The matcher (01, "Selection"). It keeps every heard event and applies the four rules
+//! The matcher (01, "Selection"; 02, R-1). It keeps every heard event and applies the four rules
 //! directly at each call. Beside it stands one that keeps the open context alone.
 
 use crate::counts::{self, Element};
 use crate::keyboard;
 use crate::layout::Context;
 use crate::limits;
-use crate::modifiers::{BUTTONS, STANDARD};
+use crate::modifiers::{Asked, BUTTONS, STANDARD};
 use crate::names;
 use crate::numbers::Number;
 use crate::records::{read_record, Event};
+use crate::resolving::Maps;
 use crate::table::Table;
 use std::ops::RangeInclusive;
 
-/// What the rules ask of a table, under a keyboard map and a multi-click time.
+/// An element with what it asks of the state: "the table keeps the names; the matcher resolves
+/// them under the map in use".
+pub struct Resolved {
+    pub element: Element,
+    pub asked: Asked,
+}
+
+/// The expanded events of each production, under maps that are not refused.
+pub fn resolved(table: &Table, maps: Maps) -> Vec<Vec<Resolved>> {
+    let resolve = |element: Element| Resolved {
+        asked: maps.asked(&element.spec.test),
+        element,
+    };
+    let sequences = counts::sequences(table).into_iter();
+    sequences
+        .map(|sequence| sequence.into_iter().map(resolve).collect())
+        .collect()
+}
+
+/// What the rules ask of a table, under the maps and a multi-click time.
 pub struct Reading<'a> {
-    /// The keyboard map, `keyboard::MAP_LENGTH` long unless every call is to be refused.
-    map: &'a [u32],
+    maps: Maps<'a>,
+    /// Whether the maps are refused; every call is then.
+    checked: Result<(), Number>,
     multi_click_time: u32,
-    /// The expanded events of each production.
-    sequences: Vec<Vec<Element>>,
+    /// The expanded events of each production, none where the maps are refused.
+    sequences: Vec<Vec<Resolved>>,
 }
 
 impl<'a> Reading<'a> {
-    pub fn new(table: &Table, map: &'a [u32], multi_click_time: u32) -> Reading<'a> {
+    pub fn new(table: &Table, maps: Maps<'a>, multi_click_time: u32) -> Reading<'a> {
+        let checked = maps.check();
         Reading {
-            map,
+            maps,
+            checked,
             multi_click_time,
-            sequences: counts::sequences(table),
+            sequences: match checked {
+                Ok(()) => resolved(table, maps),
+                Err(_) => Vec::new(),
+            },
         }
     }
 
-    /// Reads a record. Checks 1 for the map, then 13.
+    /// Reads a record. Checks 1 and 18 for the maps, then 13.
     pub fn event(&self, record: &[u8], order: u8) -> Result<Event, Number> {
-        if self.map.len() != keyboard::MAP_LENGTH {
-            return Err(Number::ShortBuffer);
-        }
+        self.checked?;
         read_record(record, order)
     }
 
     /// Rule 1: "an event whose type no production has, expansion included".
     pub fn is_dropped(&self, event: &Event) -> bool {
         let mut elements = self.sequences.iter().flatten();
-        !elements.any(|element| element.code == event.code)
+        !elements.any(|resolved| resolved.element.code == event.code)
     }
 
     /// Rule 2: whether the stretch matches the first elements of some production.
@@ -50,16 +74,16 @@ impl<'a> Reading<'a> {
         sequences.any(|sequence| self.is_prefix_of(stretch, sequence))
     }
 
-    fn is_prefix_of(&self, stretch: &[Event], sequence: &[Element]) -> bool {
+    fn is_prefix_of(&self, stretch: &[Event], sequence: &[Resolved]) -> bool {
         stretch.len() <= sequence.len()
             && (0..stretch.len()).all(|at| self.element_matches(stretch, at, &sequence[at]))
     }
 
-    fn element_matches(&self, stretch: &[Event], at: usize, element: &Element) -> bool {
-        let in_time = element.timed_from.is_none_or(|from| {
+    fn element_matches(&self, stretch: &[Event], at: usize, resolved: &Resolved) -> bool {
+        let in_time = resolved.element.timed_from.is_none_or(|from| {
             counts::in_time(stretch[from].time, stretch[at].time, self.multi_click_time)
         });
-        in_time && event_matches(&stretch[at], element, self.map)
+        in_time && event_matches(&stretch[at], resolved, self.maps.keyboard)
     }
 
     /// Rule 4: "the earliest production whose whole sequence the stretch is".
@@ -84,20 +108,20 @@ pub struct Matcher<'a> {
 
 impl<'a> Matcher<'a> {
     /// A matcher in a fresh state.
-    pub fn new(table: &Table, map: &'a [u32], multi_click_time: u32) -> Matcher<'a> {
-        Matcher::resumed(table, map, multi_click_time, Context::default())
+    pub fn new(table: &Table, maps: Maps<'a>, multi_click_time: u32) -> Matcher<'a> {
+        Matcher::resumed(table, maps, multi_click_time, Context::default())
     }
 
     /// A matcher whose history is the events of a context, open if there are any.
     pub fn resumed(
         table: &Table,
-        map: &'a [u32],
+        maps: Maps<'a>,
         multi_click_time: u32,
         context: Context,
     ) -> Matcher<'a> {
         let open = !context.events.is_empty();
         Matcher {
-            reading: Reading::new(table, map, multi_click_time),
+            reading: Reading::new(table, maps, multi_click_time),
             history: context.events,
             latest_start: usize::from(open),
             last_selection: context.selected,
@@ -133,7 +157,7 @@ impl<'a> Matcher<'a> {
         &self.history
     }
 
-    /// Checks 1, 13 and 15; a refused call leaves the state as it was.
+    /// Checks 1, 18, 13 and 15; a refused call leaves the state as it was.
     fn hear(&mut self, record: &[u8], order: u8) -> Result<Option<usize>, Number> {
         let event = self.reading.event(record, order)?;
         if self.reading.is_dropped(&event) {
@@ -184,12 +208,12 @@ pub struct BoundedMatcher<'a> {
 impl<'a> BoundedMatcher<'a> {
     pub fn new(
         table: &Table,
-        map: &'a [u32],
+        maps: Maps<'a>,
         multi_click_time: u32,
         context: Context,
     ) -> BoundedMatcher<'a> {
         BoundedMatcher {
-            reading: Reading::new(table, map, multi_click_time),
+            reading: Reading::new(table, maps, multi_click_time),
             context,
         }
     }
@@ -229,24 +253,28 @@ impl<'a> BoundedMatcher<'a> {
 }
 
 /// Whether an event has an element's type, modifiers and detail.
-pub fn event_matches(event: &Event, element: &Element, map: &[u32]) -> bool {
-    let test = &element.spec.test;
+pub fn event_matches(event: &Event, resolved: &Resolved, map: &[u32]) -> bool {
+    let Resolved { element, asked } = resolved;
+    let (keycode, state) = (event.detail, event.state);
     let detail_matches = |detail| match names::is_key(event.code) {
-        true => keyboard::gives(map, event.detail, event.state, test, detail),
+        true if element.spec.test.colon => keyboard::gives_with_colon(map, keycode, state, detail),
+        true => keyboard::gives(map, keycode, state, asked.cared_for(), detail),
         false => u32::from(event.detail) == detail,
     };
     event.code == element.code
-        && test.holds(event.state)
+        && asked.holds(state)
         && element.spec.detail.is_none_or(detail_matches)
 }
 
-/// The state bits that a table tests: "a bit is tested by a table if some event asks for it
-/// set or clear; a kept button clause tests all buttons; a colon with a key detail tests Shift
-/// and Lock."
-pub fn tested_bits(table: &Table) -> u16 {
+/// The state bits that a table tests under maps that are not refused: "a bit is tested by a table
+/// if some event asks for it set or clear; a kept button clause tests all buttons; a colon with a
+/// key detail tests Shift and Lock"; "a bit that a name resolves to counts as tested", beside a
+/// colon too.
+pub fn tested_bits(table: &Table, maps: Maps) -> u16 {
     let mut tested = 0;
     for spec in table.events() {
-        tested |= spec.test.cared_for();
+        let named = maps.named(&spec.test);
+        tested |= named.set | named.clear | spec.test.asked(named).cared_for();
         if spec.test.clause {
             tested |= BUTTONS;
         }

@@ -2,9 +2,11 @@
 
 use crate::checks::{selections, Outcome};
 use crate::generate::limits::{Aim, Limit};
+use crate::modifiers::{ListedName, STANDARD};
 use crate::names;
 use crate::numbers::Number;
 use crate::records::Event;
+use crate::resolving::Maps;
 use crate::table::Table;
 use std::collections::BTreeMap;
 use std::fmt;
@@ -31,12 +33,30 @@ pub struct Statistics {
     pub colon_events: usize,
     pub clause_events: usize,
     pub detailed_events: usize,
+    /// Events with a name, and of these: with `!`, a colon, a name after `@`, a name that is
+    /// listed both without `~` and with it.
+    pub named_events: usize,
+    pub named_exact_events: usize,
+    pub named_colon_events: usize,
+    pub keysym_events: usize,
+    pub both_ways_events: usize,
+    /// Names of events under the maps of a list: with no bit, with several, with Shift or Lock,
+    /// and with Shift or Lock beside a colon.
+    pub names_without_bit: usize,
+    pub names_of_several: usize,
+    pub names_of_standard: usize,
+    pub names_of_standard_beside_colon: usize,
+    /// Events whose names make them match nothing, though each of those listed without `~` has a
+    /// bit.
+    pub contradictions: usize,
     pub written_and_compiled: usize,
     pub too_long_written: usize,
     pub heard: usize,
     pub selections: usize,
     /// Selections on more than one event.
     pub long_selections: usize,
+    /// Selections of a production with a name.
+    pub named_selections: usize,
     pub longest_context: usize,
     /// Contexts that were opened at an event before the one that opened them.
     pub later_starts: usize,
@@ -95,6 +115,32 @@ impl Statistics {
             self.colon_events += usize::from(spec.test.colon);
             self.clause_events += usize::from(spec.test.clause);
             self.detailed_events += usize::from(spec.detail.is_some());
+            let test = &spec.test;
+            let both_ways = |two: &[ListedName]| two[0].name == two[1].name;
+            self.named_events += usize::from(test.has_names());
+            self.named_exact_events += usize::from(test.exclamation);
+            self.named_colon_events += usize::from(test.has_names() && test.colon);
+            self.keysym_events += usize::from(!test.keysyms().is_empty());
+            self.both_ways_events += usize::from(test.names.windows(2).any(both_ways));
+        }
+    }
+
+    /// What the names of a table's events mean.
+    pub fn count_names(&mut self, table: &Table, maps: Maps) {
+        if maps.check().is_err() {
+            return;
+        }
+        for test in table.events().map(|spec| &spec.test) {
+            for listed in &test.names {
+                let bits = maps.bits(listed.name);
+                let standard = bits & STANDARD != 0;
+                self.names_without_bit += usize::from(bits == 0);
+                self.names_of_several += usize::from(bits.count_ones() > 1);
+                self.names_of_standard += usize::from(standard);
+                self.names_of_standard_beside_colon += usize::from(standard && test.colon);
+            }
+            let asked = maps.asked(test);
+            self.contradictions += usize::from(!asked.never && !asked.can_hold());
         }
     }
 
@@ -109,9 +155,13 @@ impl Statistics {
         }
     }
 
-    pub fn count_outcomes(&mut self, outcomes: &[Outcome], history: &[Event]) {
+    pub fn count_outcomes(&mut self, table: &Table, outcomes: &[Outcome], history: &[Event]) {
         for outcome in outcomes {
             self.calls[outcome.number.index()] += 1;
+            if let Some(selected) = outcome.selected {
+                let mut events = table.productions[selected].events.iter();
+                self.named_selections += usize::from(events.any(|spec| spec.test.has_names()));
+            }
             self.longest_context = self.longest_context.max(outcome.kept());
         }
         let contexts = outcomes.iter().filter_map(|outcome| outcome.context);
@@ -167,6 +217,11 @@ impl fmt::Display for Statistics {
         writeln!(out, "  with colon      {}", self.colon_events)?;
         writeln!(out, "  with clause     {}", self.clause_events)?;
         writeln!(out, "  with detail     {}", self.detailed_events)?;
+        writeln!(out, "  with names      {}", self.named_events)?;
+        writeln!(out, "    and !         {}", self.named_exact_events)?;
+        writeln!(out, "    and a colon   {}", self.named_colon_events)?;
+        writeln!(out, "    and @         {}", self.keysym_events)?;
+        writeln!(out, "    both ways     {}", self.both_ways_events)?;
         writeln!(out, "written, compiled {}", self.written_and_compiled)?;
         writeln!(out, "written, too long {}", self.too_long_written)?;
         writeln!(out, "match cases       {}", self.match_cases)?;
@@ -177,6 +232,16 @@ impl fmt::Display for Statistics {
         writeln!(out, "  selections      {}", self.selections)?;
         writeln!(out, "  on several      {}", self.long_selections)?;
         writeln!(out, "  over a wrap     {}", self.selections_over_wrap)?;
+        writeln!(out, "  with a name     {}", self.named_selections)?;
+        writeln!(out, "  names, no bit   {}", self.names_without_bit)?;
+        writeln!(out, "    several       {}", self.names_of_several)?;
+        writeln!(out, "    Shift, Lock   {}", self.names_of_standard)?;
+        writeln!(
+            out,
+            "    with a colon  {}",
+            self.names_of_standard_beside_colon
+        )?;
+        writeln!(out, "  contradictions  {}", self.contradictions)?;
         writeln!(out, "  later starts    {}", self.later_starts)?;
         writeln!(out, "  just in time    {}", self.just_in_time)?;
         writeln!(out, "  just too late   {}", self.just_too_late)?;

@@ -37,8 +37,8 @@ pub struct Production {
 }
 
 /// One event of a production, before its count is expanded. Two are equal for merging
-/// exactly if all fields are equal.
-#[derive(Clone, Copy, Debug, PartialEq, Eq)]
+/// exactly if all fields are equal: "merging compares names as names".
+#[derive(Clone, Debug, PartialEq, Eq)]
 pub struct EventSpec {
     pub code: u8,
     pub count: u8,

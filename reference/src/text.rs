@@ -82,7 +82,7 @@ pub fn is_name_byte(byte: u8) -> bool {
 }
 
 /// The run after `@`.
-fn is_keysym_name_byte(byte: u8) -> bool {
+pub fn is_keysym_name_byte(byte: u8) -> bool {
     is_name_byte(byte) || byte == b'_'
 }
 

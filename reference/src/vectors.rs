@@ -4,7 +4,10 @@ use crate::calls::{self, CallContents, ProductionContents, Texts};
 use crate::compiling::compile;
 use crate::json::{self, Json};
 use crate::merging::merge;
+use crate::modifiers::ListedName;
+use crate::names::Name;
 use crate::numbers::{Number, Refusal};
+use crate::resolving::{Maps, ROWS};
 use crate::selection::Matcher;
 use crate::table::{EventSpec, Production, Table};
 use crate::writing::write;
@@ -13,9 +16,16 @@ use crate::writing::write;
 #[derive(Debug, PartialEq, Eq)]
 pub struct BadRequest;
 
+/// The rules here are those of 01 with R-1 applied. A request says which of 02's it counts on.
+const LEVEL: i64 = 1;
+
 /// The answer line for a request line.
 pub fn answer(request: &str) -> Result<String, BadRequest> {
     let request = json::parse(request).ok_or(BadRequest)?;
+    let level = request.get("level").map_or(Some(0), Json::integer);
+    if level.ok_or(BadRequest)? > LEVEL {
+        return Err(BadRequest);
+    }
     let answer = match text_of(&request, "op")? {
         "compile" => answer_compile(&request)?,
         "merge" => answer_merge(&request, table_answer)?,
@@ -62,12 +72,21 @@ fn answer_match(request: &Json) -> Result<Json, BadRequest> {
     let text = bytes_of(request, "text")?;
     let map: Result<Vec<u32>, BadRequest> = list_of(request, "map")?.iter().map(card32).collect();
     let map = map?;
+    // "Where it is left out, 16 zero bytes."
+    let modifiers = match request.get("modmap") {
+        Some(_) => bytes_of(request, "modmap")?,
+        None => vec![0; 2 * ROWS],
+    };
+    let maps = Maps {
+        keyboard: &map,
+        modifiers: &modifiers,
+    };
     let time = card32(request.get("time").ok_or(BadRequest)?)?;
     let table = match compile(&text) {
         Ok(table) => table,
         Err(refusal) => return Ok(refused(refusal)),
     };
-    let mut matcher = Matcher::new(&table, &map, time);
+    let mut matcher = Matcher::new(&table, maps, time);
     let mut results = Vec::new();
     for call in list_of(request, "calls")? {
         let record = bytes_of(call, "rec")?;
@@ -123,7 +142,17 @@ fn event_json(spec: &EventSpec) -> Json {
             spec.detail
                 .map_or(Json::Null, |detail| Json::Integer(detail.into())),
         ),
+        ("bang", Json::Bool(spec.test.exclamation)),
+        ("names", list(&spec.test.names, name_json)),
     ])
+}
+
+fn name_json(listed: &ListedName) -> Json {
+    let name = match listed.name {
+        Name::Keysym(keysym) => Json::Integer(keysym.into()),
+        name => Json::Text(name.canonical()),
+    };
+    Json::List(vec![name, Json::Bool(!listed.negated)])
 }
 
 fn call_json(text: usize, contents: &CallContents) -> Json {

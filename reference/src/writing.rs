@@ -1,7 +1,8 @@
-//! The canonical writer (01, "Merging and writing"; 001, "Canonical Representation").
+//! The canonical writer (01, "Merging and writing"; 001, "Canonical Representation"; 02, R-1).
 
 use crate::calls::{self, CallContents, ProductionContents, Texts};
 use crate::details;
+use crate::modifiers::ListedName;
 use crate::names::{self, Modifier};
 use crate::numbers::Number;
 use crate::table::{EventSpec, Table};
@@ -39,10 +40,12 @@ fn event(spec: &EventSpec) -> String {
 }
 
 /// "On codes 2..8 alone `!` (or `!:`) wherever every testable bit is asked set or clear, then
-/// only set bits listed." No text gives a list on another code, but a table's bytes can.
+/// only set bits listed." With a name, `!` and the plain names stand as they were written. No
+/// text gives a list on another code or a kept `!` without a name, but a table's bytes can.
 fn modifier_list(spec: &EventSpec) -> String {
     let test = &spec.test;
-    let exact = names::has_state(spec.code) && test.is_exact();
+    let as_written = test.exclamation || test.has_names();
+    let exact = !as_written && names::has_state(spec.code) && test.is_exact();
     let mut listed = Vec::new();
     for &(name, modifier) in &names::MODIFIERS[..names::CANONICAL_MODIFIERS] {
         match modifier {
@@ -53,9 +56,16 @@ fn modifier_list(spec: &EventSpec) -> String {
             _ => {}
         }
     }
-    let exclamation = if exact { "!" } else { "" };
+    // "The writer puts the names after Button5."
+    listed.extend(test.names.iter().map(listed_name));
+    let exclamation = if exact || test.exclamation { "!" } else { "" };
     let colon = if test.colon { ":" } else { "" };
     format!("{exclamation}{colon}{}", listed.join(" "))
+}
+
+fn listed_name(listed: &ListedName) -> String {
+    let tilde = if listed.negated { "~" } else { "" };
+    format!("{tilde}{}", listed.name.canonical())
 }
 
 fn call(call: &CallContents) -> Vec<u8> {

@@ -54,7 +54,7 @@ fn five_quick_events() {
 fn times_across_the_wrap() {
     let records = [press(1, 4_294_967_290), release(1, 0), press(1, 94)];
     let map = key_map(0, 0);
-    let pair = |limit| selected_with("<Btn1Down>(2):g()", &map, limit, &records)[2];
+    let pair = |limit| selected_with("<Btn1Down>(2):g()", bare(&map), limit, &records)[2];
     assert_eq!((pair(100), pair(101)), (None, Some(0)));
 }
 
@@ -108,12 +108,7 @@ fn lock_is_tried_both_ways() {
 
 #[test]
 fn forms_not_built() {
-    for name in [
-        "Meta", "m", "Alt", "a", "Hyper", "h", "Super", "su", "@x", "@F1_2",
-    ] {
-        all_give(10, &[format!("{name}<Key>a:"), format!("~{name}<Key>a:")]);
-    }
-    all_give(10, &["<Meta>a:", "\"$a\":", "<Key>(2+)a:"]);
+    all_give(10, &["<Key>(2+)a:"]);
     for name in [
         "Prop",
         "SelClr",
@@ -166,7 +161,7 @@ fn a_map_of_another_length() {
     let table = table(P);
     for length in [0, MAP_LENGTH - 1, MAP_LENGTH + 1] {
         let map = vec![0; length];
-        let mut matcher = Matcher::new(&table, &map, 100);
+        let mut matcher = Matcher::new(&table, bare(&map), 100);
         assert_eq!(
             matcher.call(&press(1, 0), b'B'),
             (Number::ShortBuffer, None)
@@ -207,8 +202,8 @@ fn order_within_a_line() {
     let pairs = [
         ("<Foo>:x(", 4),
         ("<Key>(0)bogus:", 5),
-        ("Meta<Key>(0)a:", 6),
-        ("Meta<Expose>:", 10),
+        ("Shift ~Shift<Key>(0)a:", 6),
+        ("Shift ~Shift<Prop>x:", 10),
         (":<Expose>:", 7),
         (":Shift ~Shift<Key>a:", 9),
         (":Shift ~Shift<Key>a,<Foo>:", 9),
@@ -596,7 +591,7 @@ fn refused_records() {
 fn dropped_and_refused_records_are_not_heard() {
     let table = table(P);
     let map = key_map(0, 0);
-    let mut matcher = Matcher::new(&table, &map, 100);
+    let mut matcher = Matcher::new(&table, bare(&map), 100);
     let none = (Number::Accepted, None);
     assert_eq!(matcher.call(&press(1, 0), b'B'), none);
     assert_eq!(matcher.call(&record(EXPOSE, 0, 0, 0), b'B'), none);
@@ -630,12 +625,14 @@ fn a_later_start_is_the_smallest_that_reads_on() {
 
 #[test]
 fn tested_bits_of_a_table() {
-    assert_eq!(tested_bits(&table("Ctrl ~Button1<Key>a:")), CTRL | BUTTON1);
-    assert_eq!(tested_bits(&table("<BtnMotion>:")), 0x1F00);
-    assert_eq!(tested_bits(&table("Button2<BtnMotion>:")), BUTTON2);
-    assert_eq!(tested_bits(&table(":<Key>a:")), SHIFT | LOCK);
-    assert_eq!(tested_bits(&table(":<Key>:\n<Key>a:")), 0);
-    assert_eq!(tested_bits(&table("None<Enter>:")), ALL);
+    let map = key_map(0, 0);
+    let tested = |text| tested_bits(&table(text), bare(&map));
+    assert_eq!(tested("Ctrl ~Button1<Key>a:"), CTRL | BUTTON1);
+    assert_eq!(tested("<BtnMotion>:"), 0x1F00);
+    assert_eq!(tested("Button2<BtnMotion>:"), BUTTON2);
+    assert_eq!(tested(":<Key>a:"), SHIFT | LOCK);
+    assert_eq!(tested(":<Key>:\n<Key>a:"), 0);
+    assert_eq!(tested("None<Enter>:"), ALL);
 }
 
 // "Merging and writing"

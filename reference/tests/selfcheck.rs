@@ -16,7 +16,7 @@ fn generated_cases() {
     for number in [0, 11] {
         assert!(statistics.merged[number] >= 100, "number {number}");
     }
-    for number in [0, 1, 13] {
+    for number in [0, 1, 13, 18] {
         assert!(statistics.calls[number] >= 100, "number {number}");
     }
     assert!(statistics.at_limit.iter().all(|&cases| cases >= 50));
@@ -28,6 +28,11 @@ fn generated_cases() {
         statistics.colon_events,
         statistics.clause_events,
         statistics.detailed_events,
+        statistics.named_events,
+        statistics.named_exact_events,
+        statistics.named_colon_events,
+        statistics.keysym_events,
+        statistics.both_ways_events,
     ] {
         assert!(events >= 1000);
     }
@@ -35,6 +40,16 @@ fn generated_cases() {
     assert!(statistics.merged_match_cases >= 1000);
     assert!(statistics.selections >= 100_000);
     assert!(statistics.long_selections >= 10_000);
+    assert!(statistics.named_selections >= 50_000);
+    for names in [
+        statistics.names_without_bit,
+        statistics.names_of_several,
+        statistics.names_of_standard,
+        statistics.names_of_standard_beside_colon,
+        statistics.contradictions,
+    ] {
+        assert!(names >= 10_000);
+    }
     assert!(statistics.later_starts >= 1000);
     assert!(statistics.just_in_time >= 1000);
     assert!(statistics.just_too_late >= 1000);

@@ -12,22 +12,46 @@ fn lines(name: &str) -> Vec<String> {
     text.lines().map(str::to_string).collect()
 }
 
-fn check(prefix: &str, count: usize) {
+/// So many requests of a file, each with its answer, in the form in which the file has answers.
+fn check(prefix: &str, count: usize, form: fn(String) -> String) {
     let requests = lines(&format!("{prefix}requests.jsonl"));
     let answers = lines(&format!("{prefix}answers.jsonl"));
     assert_eq!((requests.len(), answers.len()), (count, count));
     for (at, (request, answer)) in requests.iter().zip(&answers).enumerate() {
-        let found = vectors::answer(request).expect("a request");
+        let found = form(vectors::answer(request).expect("a request"));
         assert_eq!(&found, answer, "line {}", at + 1);
     }
 }
 
-#[test]
-fn generated_requests() {
-    check("", 2500);
+/// The vectors of 01 have no names.
+fn of_01(answer: String) -> String {
+    answer.replace(",\"bang\":false,\"names\":[]", "")
 }
 
 #[test]
-fn open_points() {
-    check("open-points.", 123);
+fn generated_requests_of_01() {
+    check("", 2463, of_01);
+}
+
+#[test]
+fn open_points_of_01() {
+    check("open-points.", 119, of_01);
+}
+
+#[test]
+fn level_1_of_02() {
+    check("02/level-01.", 260, |answer| answer);
+}
+
+#[test]
+fn open_points_of_r_1() {
+    check("02/open-points.", 79, |answer| answer);
+}
+
+/// A request that counts on a later one of 02 is not answered.
+#[test]
+fn later_levels() {
+    let request = |level: u8| format!("{{\"op\":\"compile\",\"text\":\"\",\"level\":{level}}}");
+    assert!(vectors::answer(&request(1)).is_ok());
+    assert!(vectors::answer(&request(2)).is_err());
 }

@@ -1,4 +1,4 @@
--- Texts and their canonical texts, document 01's whole example first.
+-- Texts and their canonical texts, document 01's whole example first, then those of request R-1.
 use Prim.Native.Nat.{ℕ}
 use Prim.Native.String.{String}
 use mathlib.Core.Bool.{Bool, _&&_}
@@ -44,6 +44,19 @@ writtenExamples =
     ∷ gives "<Key>(1)F12,<Key>0x1FFFFFFF:" "<KeyPress>0xffc9,<KeyPress>0x1fffffff:\n"
     -- parameters are quoted, and hold what they held
     ∷ gives "<Key>:f( , )g(a(b,\" x, y\\\")" "<KeyPress>:f(\"\",\"\") g(\"a(b\",\" x, y\\\")\n"
+    -- R-1: "names after Button5: Meta, Alt, Hyper, Super, then `@` with hexadecimal keysyms, rising, of one name the set form first"
+    ∷ gives "~m @0x100 m ~@b a @a ~Shift Button5<Key>:" "~Shift Button5 Meta ~Meta Alt @0x61 ~@0x62 @0x100<KeyPress>:\n"
+    ∷ gives "su h ~ a @10 ~@a @97<Key>:" "~Alt Hyper Super @0xa @0x61 ~@0x61<KeyPress>:\n"
+    -- "`None<Meta>` .. is kept, as `!Meta<Key>`, `Any<Meta>` as `Meta<Key>`", and "`$` .. as Meta listed"
+    ∷ gives "None<Meta>a,Any<Meta>a:" "!Meta<KeyPress>0x61,Meta<KeyPress>0x61:\n"
+    ∷ gives "~Meta<Meta>a:" "Meta ~Meta<KeyPress>0x61:\n"
+    ∷ gives "\"$a\":" "Meta<KeyPress>0x61:\n"
+    -- "keeps `!` and its plain names, clear ones too, as written"
+    ∷ gives "!~Shift Meta<Key>a:" "!~Shift Meta<KeyPress>0x61:\n"
+    ∷ gives "~c~s~l~Mod1~Mod2~Mod3~Mod4~Mod5~Button1~Button2~Button3~Button4~Button5 m<Key>a:"
+    "~Ctrl ~Shift ~Lock ~Mod1 ~Mod2 ~Mod3 ~Mod4 ~Mod5 ~Button1 ~Button2 ~Button3 ~Button4 ~Button5 Meta<KeyPress>0x61:\n"
+    ∷ gives "!:@00<Key>a:" "!:@0x0<KeyPress>0x61:\n"
+    ∷ gives "Meta<BtnMotion>:" "Meta<BtnMotion>:\n"
     ∷ []
 
 -- the text comes to its canonical one, and that to itself

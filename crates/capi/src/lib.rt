@@ -142,19 +142,19 @@ pub extern "C" fn tt_fresh(state: &mut [u8]) -> u64
 #[no_mangle]
 pub extern "C" fn tt_match(
     table: &[u8],
-    map: &[u8],
+    maps: &[u8],
     time: u32,
     state: &mut [u8],
     record: &[u8],
     order: u8,
 ) -> u64
-    ensures { λ r. ⌜ r ≡ matchedWord (matchedOn (now (table .entry)) (lentSetting (now (map .entry)) time) (now (state .entry)) (now («record» .entry)) order) ⌝ }
-    ensures { λ r. ⌜ now (state .exit) ≡ stateLeft (now (table .entry)) (lentSetting (now (map .entry)) time) (now (state .entry)) (now («record» .entry)) order ⌝ }
+    ensures { λ r. ⌜ r ≡ matchedWord (matchedOn (now (table .entry)) (lentSetting (now (maps .entry)) time) (now (state .entry)) (now («record» .entry)) order) ⌝ }
+    ensures { λ r. ⌜ now (state .exit) ≡ stateLeft (now (table .entry)) (lentSetting (now (maps .entry)) time) (now (state .entry)) (now («record» .entry)) order ⌝ }
 {
     if state.len() < state::STATE_LENGTH {
         return 1;
     }
-    let answer = matcher::match_event(table, map, time, state::load_state(state), record, order);
+    let answer = matcher::match_event(table, maps, time, state::load_state(state), record, order);
     let matched = answer.matched;
     let next = answer.state;
     state::keep(state, matched, next);

@@ -23,8 +23,8 @@ fn put_reason(number: u8) {
         7 => put(b"modifiers stand before an event type that takes none"),
         8 => put(b"no state of the modifiers meets this event"),
         9 => put(b"a colon stands before an event that is no key event, or beside Shift or Lock"),
-        10 => put(b"Meta, Alt, Hyper, Super, @, $, + and atoms are not supported yet"),
-        11 => put(b"too many productions, events, calls or parameters"),
+        10 => put(b"counts with + and atoms as details are not supported yet"),
+        11 => put(b"too many productions, events, calls or parameters, or keysyms in an event"),
         _ => put(b"the text is refused"),
     }
 }
@@ -41,10 +41,11 @@ fn put_refusal(text: &[u8], number: u8, place: usize) {
     put(b"\n");
 }
 
-// The canonical text has at most 42,240 bytes, so 65,536 are always enough: 256 events of at most 127 bytes and a comma (a list
-// of 95 bytes, a type of 18, a count of 3, a detail of 12), a colon and a newline for each of 64 productions, a blank and two brackets for
-// each of 128 calls, two quotes and a comma for each of 256 parameters, and the names and parameters, which are parts of a
-// text of at most 8,192 bytes.
+// The canonical text has less than 48,000 bytes, so 65,536 are always enough: for each of 256 events a type of 18 bytes, a count of
+// 3, a detail of 12 and a comma; for its modifiers, of which none grows more than from the two bytes `~s` to the seven of
+// `~Shift` and a blank, three and a half times the text's 8,192 bytes and three more an event; a colon and a newline for each of
+// 64 productions, a blank and two brackets for each of 128 calls, two quotes and a comma for each of 256 parameters; and the
+// names and parameters of calls, which are parts of the text.
 fn put_canonical(table: &[u8], text: &[u8]) {
     let mut out = io::large_buffer();
     let written = printer::write(table, text, text, &mut out);

@@ -1,6 +1,7 @@
-// A quota desk: a click looks at a bucket, a double click grants space, and so does Ctrl G. A recorded run of events is matched
-// against the table, and each call that is selected is printed. The third click does not pair with the second, two clicks
-// across the wrap of the server's 32-bit clock pair only where they are quick, and Caps Lock changes nothing.
+// A quota desk: a click looks at a bucket, a double click grants space, and so does Ctrl G; Meta G takes it back. A recorded run
+// of events is matched against the table, and each call that is selected is printed. The third click does not pair with the
+// second, two clicks across the wrap of the server's 32-bit clock pair only where they are quick, Caps Lock changes nothing, and
+// Meta is whichever modifier the keyboard has it on.
 use libc::STDOUT_FILENO;
 use model::answers::Compiled;
 use model::answers::Matched;
@@ -15,8 +16,10 @@ const BUTTON_PRESS: u8 = 4;
 
 const BUTTON_RELEASE: u8 = 5;
 
-// The keycode of G on this keyboard.
+// The keycodes of G and of Meta on these keyboards.
 const KEYCODE_G: u8 = 42;
+
+const KEYCODE_META: u8 = 64;
 
 // Modifier states.
 const NONE: u8 = 0;
@@ -26,6 +29,15 @@ const LOCK: u8 = 2;
 const CTRL: u8 = 4;
 
 const CTRL_LOCK: u8 = 6;
+
+const MOD1: u8 = 8;
+
+const MOD4: u8 = 64;
+
+// Their rows in a modifier map.
+const MOD1_ROW: usize = 3;
+
+const MOD4_ROW: usize = 6;
 
 fn put(bytes: &[u8]) {
     io::write_all(STDOUT_FILENO, bytes);
@@ -44,11 +56,17 @@ fn record(code: u8, detail: u8, modifiers: u8, time: u32) -> [u8; 32] {
     r
 }
 
-// A keyboard with one key: keycode 42, the 35th pair from keycode 8 on, has the keysym of g.
-fn keyboard() -> [u8; 1984] {
-    let mut map = [0u8; 1984];
-    map[272] = b'g';
-    map
+// The maps of a keyboard with two keys: keycode 42, the 35th pair from keycode 8 on, has the keysym of g, and keycode 64 that of
+// the left Meta, 0xffe7. A modifier map of one keycode a row follows the 1,984 bytes of pairs: Meta stands in one row.
+fn keyboard(meta_row: usize) -> [u8; 1992] {
+    let mut maps = [0u8; 1992];
+    maps[272] = b'g';
+    maps[448] = 0xe7;
+    maps[449] = 0xff;
+    if meta_row < 8 {
+        maps[1984 + meta_row] = KEYCODE_META;
+    }
+    maps
 }
 
 // The first call of the production that was selected.
@@ -64,9 +82,16 @@ fn show(table: &[u8], text: &[u8], label: &[u8], matched: Matched) {
     put(b")\n");
 }
 
-fn hear(table: &[u8], text: &[u8], state: State, r: [u8; 32], label: &[u8]) -> State {
-    let map = keyboard();
-    let answer = matcher::match_event(table, &map, MULTI_CLICK_TIME, state, &r, b'l');
+fn hear(
+    table: &[u8],
+    text: &[u8],
+    meta_row: usize,
+    state: State,
+    r: [u8; 32],
+    label: &[u8],
+) -> State {
+    let maps = keyboard(meta_row);
+    let answer = matcher::match_event(table, &maps, MULTI_CLICK_TIME, state, &r, b'l');
     let matched = answer.matched;
     show(table, text, label, matched);
     answer.state
@@ -75,15 +100,24 @@ fn hear(table: &[u8], text: &[u8], state: State, r: [u8; 32], label: &[u8]) -> S
 // Press and release of button 1, 20 milliseconds apart.
 fn click(table: &[u8], text: &[u8], state: State, modifiers: u8, time: u32, label: &[u8]) -> State {
     let press = record(BUTTON_PRESS, 1, modifiers, time);
-    let pressed = hear(table, text, state, press, label);
+    let pressed = hear(table, text, MOD1_ROW, state, press, label);
     let later = std::num::wrapping_add_u32(time, 20);
     let release = record(BUTTON_RELEASE, 1, modifiers, later);
-    hear(table, text, pressed, release, label)
+    hear(table, text, MOD1_ROW, pressed, release, label)
 }
 
 fn key(table: &[u8], text: &[u8], state: State, modifiers: u8, time: u32, label: &[u8]) -> State {
     let press = record(KEY_PRESS, KEYCODE_G, modifiers, time);
-    hear(table, text, state, press, label)
+    hear(table, text, MOD1_ROW, state, press, label)
+}
+
+// G with Mod1 and with Mod4, on a keyboard that has Meta in this row.
+fn with_meta(table: &[u8], text: &[u8], meta_row: usize) {
+    let mod1 = record(KEY_PRESS, KEYCODE_G, MOD1, 1000);
+    let mod4 = record(KEY_PRESS, KEYCODE_G, MOD4, 1100);
+    let s = State::fresh();
+    let s = hear(table, text, meta_row, s, mod1, b"Mod1 G");
+    hear(table, text, meta_row, s, mod4, b"Mod4 G");
 }
 
 fn three_clicks(table: &[u8], text: &[u8], s: State) -> State {
@@ -128,10 +162,15 @@ fn run(table: &[u8], text: &[u8]) {
     let s = three_clicks(table, text, s);
     let s = across_the_wrap(table, text, s);
     with_caps_lock(table, text, s);
+    put(b"\nMeta is Mod1\n");
+    with_meta(table, text, MOD1_ROW);
+    put(b"\nMeta is Mod4\n");
+    with_meta(table, text, MOD4_ROW);
 }
 
 fn main() {
-    let text = b"<Btn1Down>(2): grant(space)\n<Btn1Down>: look(bucket)\nCtrl<Key>g: grant(space)\n";
+    let text =
+        b"<Btn1Down>(2): grant(space)\n<Btn1Down>: look(bucket)\nCtrl<Key>g: grant(space)\nMeta<Key>g: revoke(space)\n";
     let mut table = [0u8; tables::TABLE_LENGTH];
     match compiler::compile(text, &mut table) {
         Compiled::Accepted => run(&table, text),

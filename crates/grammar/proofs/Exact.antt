@@ -38,6 +38,7 @@ accepts-of text t o (Compiles.badByte h run) e = let z : _≡_ {A = ℕ} 0 1 = c
 accepts-of text t o (Compiles.notGrammar al u c n) e = let z : _≡_ {A = ℕ} 0 1 = cc in absurd (omega arith)
 accepts-of text t o (Compiles.refusedEvent al u c y r) e = let z : _≡_ {A = ℕ} 0 1 = cc in absurd (omega arith)
 accepts-of text t o (Compiles.pastLimit al u c y k f) e = let z : _≡_ {A = ℕ} 0 1 = cc in absurd (omega arith)
+accepts-of text t o (Compiles.crowdedEvent al u c y r) e = let z : _≡_ {A = ℕ} 0 1 = cc in absurd (omega arith)
 accepts-of text t o (Compiles.accept {d = d} {ps = ps} al u) e =
     let i : t ≡ tableOf text d ps = accepted-same (tableOf text d ps) t e in
     record { allowed = al; directive = d; productions = ps; derived = u; table = i }
@@ -66,6 +67,8 @@ not-grammar-of text place o (Compiles.refusedEvent {n = n} al u c y r) e =
     let i : n ≡ Numbers.notGrammar = cc in absurd (refused-not Numbers.notGrammar refl r i)
 not-grammar-of text place o (Compiles.pastLimit al u c y k f) e =
     let z : Numbers.pastLimit ≡ Numbers.notGrammar = cc in absurd (omega arith)
+not-grammar-of text place o (Compiles.crowdedEvent al u c y r) e =
+    let z : Numbers.pastLimit ≡ Numbers.notGrammar = cc in absurd (omega arith)
 not-grammar-of text place o (Compiles.accept al u) e = let z : _≡_ {A = ℕ} 0 1 = cc in absurd (omega arith)
 
 never-out : (text : List ℕ) (place : ℕ) (o : Outcome) → Compiles text o → o ≡ outOfFuel place → ⊥
@@ -75,6 +78,7 @@ never-out text place o (Compiles.notGrammar al u c n) e = let z : Numbers.notGra
 never-out text place o (Compiles.refusedEvent {n = n} al u c y r) e =
     let i : n ≡ Numbers.shortBuffer = cc in refused-not Numbers.shortBuffer refl r i
 never-out text place o (Compiles.pastLimit al u c y k f) e = let z : Numbers.pastLimit ≡ Numbers.shortBuffer = cc in omega arith
+never-out text place o (Compiles.crowdedEvent al u c y r) e = let z : Numbers.pastLimit ≡ Numbers.shortBuffer = cc in omega arith
 never-out text place o (Compiles.accept al u) e = let z : _≡_ {A = ℕ} 0 1 = cc in omega arith
 
 -- ---- The bytes of a span

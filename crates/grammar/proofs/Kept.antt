@@ -2,7 +2,7 @@
 use Prim.Native.Nat.{ℕ, _+_, _≤_}
 use native.Mathlib.Omega.{arith}
 use mathlib.Core.Path.{_≡_, refl, sym, ap, _∙_}
-use mathlib.Core.Bool.{Bool, true, false, _||_, false≢true}
+use mathlib.Core.Bool.{Bool, true, false, cond, _||_, false≢true}
 use mathlib.Core.List.{List, [], _∷_, _++_}
 use lib.Dec.{eqb, ltb}
 use lib.ListN.{length, length-append}
@@ -15,8 +15,9 @@ use Rattle.model.specs.Events.{Written, WrittenEvent}
 use Rattle.model.specs.Counts.{sequence}
 use Rattle.model.specs.Tables.{Production}
 use Rattle.model.specs.Judging.{isUnknown, isOutOfRange, isUnbuilt, isListNotTaken, isColonMisplaced, isImpossible, eventNumber, keptEvent, keepUnless, judgedAs, judgedWritten, judgedMark, judged}
+use Rattle.model.specs.Named.{isCrowded}
 use Rattle.model.specs.Names.{typeNamed}
-use Rattle.model.specs.Compiling.{productionPasses, eventsInAll, callsInAll, parametersInAll, totalsPass, passesLimit, EventsJudged, keep, refuse, keepOneMore, judgedNext, judgedAll}
+use Rattle.model.specs.Compiling.{productionPasses, eventsInAll, callsInAll, parametersInAll, totalsPass, passesLimit, EventsJudged, keep, crowded, refuse, keepOneMore, crowdedWith, judgedNext, judgedAll}
 use Rattle.model.specs.declared.scan.KeyMark.{KeyMark}
 use Rattle.model.specs.declared.names.TypeName.{TypeName}
 use Rattle.model.specs.declared.events.KeptEvent.{KeptEvent}
@@ -34,19 +35,35 @@ pub events-refused : {es : List WrittenEvent} {n : ℕ} → Grammar.EventsRefuse
 unfolding judgedAll
 events-refused (Grammar.EventsRefused.here e) = rw e
 events-refused (Grammar.EventsRefused.later e d) = rw (e, events-refused d)
+events-refused (Grammar.EventsRefused.afterCrowded e d) = rw (e, events-refused d)
+
+pub events-crowded : {es : List WrittenEvent} → Grammar.EventsCrowded es → judgedAll es ≡ crowded
+unfolding judgedAll
+events-crowded (Grammar.EventsCrowded.last e d) = rw (e, events-kept d)
+events-crowded (Grammar.EventsCrowded.again e d) = rw (e, events-crowded d)
+events-crowded (Grammar.EventsCrowded.later e d) = rw (e, events-crowded d)
 
 pub data JudgedView (es : List WrittenEvent) : EventsJudged → Type 0 where
   kept : {ks : List KeptEvent} → Grammar.EventsKept es ks → JudgedView es (keep ks)
+  full : Grammar.EventsCrowded es → JudgedView es crowded
   refused : {n : ℕ} → Grammar.EventsRefused es n → JudgedView es (refuse n)
 
 judged-more : {e : WrittenEvent} {k : KeptEvent} {es : List WrittenEvent} {x : EventsJudged} → judged e ≡ Judged.Keep k → JudgedView es x
     → JudgedView (e ∷ es) (keepOneMore k x)
 judged-more e (kept d) = kept (Grammar.EventsKept.more e d)
+judged-more e (full d) = full (Grammar.EventsCrowded.later e d)
 judged-more e (refused d) = refused (Grammar.EventsRefused.later e d)
+
+judged-full : {e : WrittenEvent} {es : List WrittenEvent} {x : EventsJudged} → judged e ≡ Judged.Crowded → JudgedView es x
+    → JudgedView (e ∷ es) (crowdedWith x)
+judged-full e (kept d) = full (Grammar.EventsCrowded.last e d)
+judged-full e (full d) = full (Grammar.EventsCrowded.again e d)
+judged-full e (refused d) = refused (Grammar.EventsRefused.afterCrowded e d)
 
 judged-next : (e : WrittenEvent) (es : List WrittenEvent) (x : EventsJudged) → JudgedView es x → (j : Judged) → judged e ≡ j
     → JudgedView (e ∷ es) (judgedNext j x)
 judged-next e es x v (Judged.Keep k) q = judged-more q v
+judged-next e es x v Judged.Crowded q = judged-full q v
 judged-next e es x v (Judged.Refuse n) q = refused (Grammar.EventsRefused.here q)
 
 pub judged-view : (es : List WrittenEvent) → JudgedView es (judgedAll es)
@@ -59,12 +76,13 @@ judged-view (e ∷ es) = judged-next e es (judgedAll es) (judged-view es) (judge
 abbrev isEarly : ℕ → Bool
 isEarly n = inRange 1 n 4
 
-unless-late : (n : ℕ) (k : KeptEvent) → isEarly n ≡ false → isEarly (Numbers.judgedNumber (keepUnless n k)) ≡ false
-unless-late n k e = go (eqb n 0) refl
+unless-late : (n : ℕ) (many : Bool) (k : KeptEvent) → isEarly n ≡ false → isEarly (Numbers.judgedNumber (keepUnless n many k)) ≡ false
+unless-late n many k e = go (eqb n 0) many
   where
-    go : (t : Bool) → eqb n 0 ≡ t → isEarly (Numbers.judgedNumber (keepUnless n k)) ≡ false
-    go true q = rw q
-    go false q = rw q e
+    go : (t m : Bool) → isEarly (Numbers.judgedNumber (cond t (cond m Judged.Crowded (Judged.Keep k)) (Judged.Refuse n))) ≡ false
+    go true true = refl
+    go true false = refl
+    go false m = e
 
 order-late : (a b c d e f : Bool) → isEarly (Numbers.eventOrder a b c d e f) ≡ false
 order-late true b c d e f = refl
@@ -78,9 +96,9 @@ order-late false false false false false false = refl
 named-late : (w : Written) (t : TypeName) → isEarly (Numbers.judgedNumber (judgedAs w t)) ≡ false
 unfolding eventNumber
 named-late w (TypeName.Known ty) =
-    unless-late (eventNumber w ty) (keptEvent w ty)
+    unless-late (eventNumber w ty) (isCrowded (w .list)) (keptEvent w ty)
     (order-late (isUnknown w ty) (isOutOfRange w ty) (isUnbuilt w ty) (isListNotTaken w ty) (isColonMisplaced w ty)
-    (isImpossible (keptEvent w ty)))
+    (isImpossible w ty))
 named-late w TypeName.Unknown = refl
 
 mark-late : (m : KeyMark) (b : ℕ) → isEarly (Numbers.judgedNumber (judgedMark m b)) ≡ false
@@ -98,6 +116,7 @@ refused-late : {es : List WrittenEvent} {n : ℕ} → Grammar.EventsRefused es n
 refused-late (Grammar.EventsRefused.here {e = e} q) =
     ap (λ (j : Judged). isEarly (Numbers.judgedNumber j)) (sym q) ∙ judged-late e
 refused-late (Grammar.EventsRefused.later q d) = refused-late d
+refused-late (Grammar.EventsRefused.afterCrowded q d) = refused-late d
 
 pub refused-not : {es : List WrittenEvent} {n : ℕ} (m : ℕ) → isEarly m ≡ true → Grammar.EventsRefused es n → n ≡ m → ⊥
 refused-not m h d f = false≢true (sym (refused-late d) ∙ ap isEarly f ∙ h)

@@ -23,10 +23,10 @@ use Rattle.grammar.specs.Bytes.{allowedByte, blank, lineByte}
 use Rattle.grammar.specs.Tokens.{Run}
 use Rattle.grammar.specs.Productions.{DerivesProduction}
 use Rattle.grammar.specs.Texts.{Line, Directive, Derived, startInText, Lines, TranslationTable}
-use Rattle.grammar.specs.Compiling.{EventsKept, EventsRefused, ProductionsKept, productionOf, Upto, Allowed, Compiles}
+use Rattle.grammar.specs.Compiling.{EventsKept, EventsCrowded, EventsRefused, ProductionsKept, productionOf, Upto, Allowed, Compiles}
 use Rattle.grammar.proofs.Places.{At, front, at-start, and-left, and-right}
 use Rattle.grammar.proofs.Productions.{LineView, line-sound, line-complete}
-use Rattle.grammar.proofs.Kept.{events-kept, events-refused, JudgedView, judged-view}
+use Rattle.grammar.proofs.Kept.{events-kept, events-refused, events-crowded, JudgedView, judged-view}
 use Rattle.grammar.proofs.Lines.{cut-off, line-clean, at-line, at-place, go-on-last, go-on-next, at-next-line, line-shorter, directive-complete, DirectiveView, directive-view, directive-no-production}
 use Rattle.grammar.proofs.Steps.{production-not-blank, onward, no-directive, step-blank, step-line, step-directive, line-added, first-lines, Reached, upto-reach}
 
@@ -84,6 +84,11 @@ module _ (text : List ℕ) where
   unfolding lineOutcome
   no-event {w} p d ps f y r = rw (line-complete w y, events-refused r)
 
+  many-keysyms : {w : List ℕ} {es : List WrittenEvent} {cs : List WrittenCall} (p : ℕ) (d : Model.Directive) (ps : List Tables.Production) (f : ℕ)
+      → DerivesProduction w es cs → EventsCrowded es → afterLine text p d ps (lineOutcome ps p w) (onward text f) ≡ refused Numbers.pastLimit p
+  unfolding lineOutcome
+  many-keysyms {w} p d ps f y r = rw (line-complete w y, events-crowded r)
+
   no-room : {w : List ℕ} {es : List WrittenEvent} {cs : List WrittenCall} {ks : List KeptEvent} (p q : ℕ) (d : Model.Directive) (ps : List Tables.Production) (f : ℕ)
       → p ≡ q → DerivesProduction w es cs → EventsKept es ks → passesLimit (ps ++ (productionOf q ks cs ∷ [])) ≡ true
       → afterLine text p d ps (lineOutcome ps p w) (onward text f) ≡ refused Numbers.pastLimit q
@@ -117,6 +122,10 @@ module _ (text : List ℕ) where
       compile-lines al
       ∙ stops Numbers.pastLimit c (production-not-blank y) (λ z e x. directive-no-production x y)
       (λ f p i. no-room p (startInText text l) d ps f i y k e ∙ ap (refused Numbers.pastLimit) (sym i)) (upto-reach text u)
+  complete (Compiles.crowdedEvent {d = d} {ps = ps} al u c y r) =
+      compile-lines al
+      ∙ stops Numbers.pastLimit c (production-not-blank y) (λ z e x. directive-no-production x y) (λ f p i. many-keysyms p d ps f y r)
+      (upto-reach text u)
   complete (Compiles.accept al u) = compile-lines al ∙ ends (upto-reach text u)
 
   -- ---- What comes of a text is what the relation says
@@ -202,6 +211,7 @@ module _ (text : List ℕ) where
           {es : List WrittenEvent} {cs : List WrittenCall} {x : EventsJudged} → DerivesProduction w es cs → JudgedView es x
           → Compiles text (afterLine text p d ps (lineOutcome ps p w) (onward text f))
       events-sound y (JudgedView.refused q) = rw (no-event p d ps f y q, at-place text p a) (Compiles.refusedEvent allowed u c y q)
+      events-sound y (JudgedView.full q) = rw (many-keysyms p d ps f y q, at-place text p a) (Compiles.crowdedEvent allowed u c y q)
       events-sound {cs = cs} y (JudgedView.kept {ks = ks} k) = room-sound y k (passesLimit (ps ++ (productionOf (startInText text l) ks cs ∷ []))) refl
 
       read-sound :

@@ -30,10 +30,18 @@ pub data EventsKept : List WrittenEvent → List KeptEvent → Type 0 where
   more : {e : WrittenEvent} {k : KeptEvent} {es : List WrittenEvent} {ks : List KeptEvent} → judged e ≡ Judged.Keep k → EventsKept es ks
       → EventsKept (e ∷ es) (k ∷ ks)
 
+-- no check of 5..10 applies to any event, and one names "over four different keysyms" (R-1)
+pub data EventsCrowded : List WrittenEvent → Type 0 where
+  last : {e : WrittenEvent} {es : List WrittenEvent} {ks : List KeptEvent} → judged e ≡ Judged.Crowded → EventsKept es ks → EventsCrowded (e ∷ es)
+  again : {e : WrittenEvent} {es : List WrittenEvent} → judged e ≡ Judged.Crowded → EventsCrowded es → EventsCrowded (e ∷ es)
+  later : {e : WrittenEvent} {k : KeptEvent} {es : List WrittenEvent} → judged e ≡ Judged.Keep k → EventsCrowded es → EventsCrowded (e ∷ es)
+
 -- a check gives its number on some event, and none applies to an earlier one
 pub data EventsRefused : List WrittenEvent → ℕ → Type 0 where
   here : {e : WrittenEvent} {es : List WrittenEvent} {n : ℕ} → judged e ≡ Judged.Refuse n → EventsRefused (e ∷ es) n
   later : {e : WrittenEvent} {k : KeptEvent} {es : List WrittenEvent} {n : ℕ} → judged e ≡ Judged.Keep k → EventsRefused es n
+      → EventsRefused (e ∷ es) n
+  afterCrowded : {e : WrittenEvent} {es : List WrittenEvent} {n : ℕ} → judged e ≡ Judged.Crowded → EventsRefused es n
       → EventsRefused (e ∷ es) n
 
 -- ---- Productions
@@ -88,5 +96,10 @@ module _ (text : List ℕ) where
         {es : List WrittenEvent} {cs : List WrittenCall} {ks : List KeptEvent}
         → Allowed → Upto (some l) d ps → Line l w r → DerivesProduction w es cs → EventsKept es ks
         → passesLimit (ps ++ (productionOf (startInText text l) ks cs ∷ [])) ≡ true → Compiles (refused Numbers.pastLimit (startInText text l))
+    -- 11, R-1: "over four different keysyms in an event"
+    crowdedEvent : {l w : List ℕ} {r : Option (List ℕ)} {d : Model.Directive} {ps : List Tables.Production}
+        {es : List WrittenEvent} {cs : List WrittenCall}
+        → Allowed → Upto (some l) d ps → Line l w r → DerivesProduction w es cs → EventsCrowded es
+        → Compiles (refused Numbers.pastLimit (startInText text l))
     -- 0: accepted
     accept : {d : Model.Directive} {ps : List Tables.Production} → Allowed → Upto none d ps → Compiles (accepted (tableOf text d ps))

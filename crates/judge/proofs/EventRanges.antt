@@ -3,32 +3,37 @@ use Prim.Native.Nat.{ℕ, _-_, _≤_, _<_}
 use native.Mathlib.Omega.{arith}
 use mathlib.Core.Path.{_≡_, refl, ap, subst, _∙_}
 use mathlib.Core.Bool.{Bool, true, false, cond, not, _||_, or-true, true≢false}
-use mathlib.Core.List.{List}
+use mathlib.Core.List.{List, []}
 use mathlib.Core.Option.{Option, none, some}
 use lib.Dec.{leb, eqb, lit<, lit≤}
 use lib.ListN.{length}
-use borrow.Author.Tests.{leb-true, eqb-true, not-false}
-use Rattle.model.specs.Lists.{isEmpty}
+use borrow.Author.Tests.{leb-true, eqb-true, ltb-false, not-false}
+use Rattle.model.specs.Lists.{any, isEmpty}
 use Rattle.model.specs.Numbers.{eventOrder}
-use Rattle.model.specs.Limits.{keysymLimit}
+use Rattle.model.specs.Limits.{keysymLimit, keysymsOfEventLimit}
 use Rattle.model.specs.Bytes.{inRange, byteAt}
 use Rattle.model.specs.Codes.{takesCount}
 use Rattle.model.specs.Names.{typeNamed}
 use Rattle.model.specs.Details.{detailNamed}
-use Rattle.model.specs.Events.{Count, Written, WrittenEvent, event, key}
-use Rattle.model.specs.Modifiers.{asksSet, asksClear, setMask, clearMask}
-use Rattle.model.specs.Judging.{fixes, detailOf, readValue, keptDetail, isOneDigit, countBad, countValue, isUnknown, isOutOfRange, isUnbuilt, isListNotTaken, isColonMisplaced, isImpossible, detailTooLarge, keptEvent, eventNumber, keepUnless, judgedAs, judgedWritten, keyPressOf, judgedMark, judged}
+use Rattle.model.specs.Events.{ModifierList, Count, Written, WrittenEvent, event, key}
+use Rattle.model.specs.Modifiers.{mask, modifiersOf, listsClear, asksSet, asksClear, setMask, clearMask}
+use Rattle.model.specs.Named.{listsForm, addsForm, namesMask, keysymsOf, isCrowded, keysymsIn, hasNames}
+use Rattle.model.specs.Judging.{fixes, detailOf, readValue, keptDetail, isOneDigit, countBad, countValue, anyTooLarge, isUnknown, isOutOfRange, isUnbuilt, isListNotTaken, isColonMisplaced, isImpossible, detailTooLarge, keptClear, keptEvent, eventNumber, keepUnless, judgedAs, judgedWritten, keyPressOf, judgedMark, judged}
 use Rattle.model.specs.declared.scan.KeyMark.{KeyMark}
 use Rattle.model.specs.declared.events.Detail.{Detail}
 use Rattle.model.specs.declared.events.KeptEvent.{KeptEvent}
+use Rattle.model.specs.declared.names.Added.{Added}
 use Rattle.model.specs.declared.names.EventType.{EventType}
 use Rattle.model.specs.declared.names.TypeName.{TypeName}
 use Rattle.model.specs.declared.names.DetailRead.{DetailRead}
 use Rattle.model.specs.declared.answers.Judged.{Judged}
 use Rattle.modifiers.proofs.Masks.{mask-below}
 use Rattle.modifiers.proofs.Below.{both-left, both-right}
-use Rattle.judge.specs.Ranges.{DetailIn, TypeIn, EventIn, WrittenIn}
+use Rattle.keysym_list.specs.Rising.{KeysymsIn}
+use Rattle.list_masks.proofs.Forms.{forms-below}
+use Rattle.judge.specs.Ranges.{DetailIn, TypeIn, EventIn, WordsIn, WrittenIn}
 use Rattle.judge.proofs.NameRanges.{cond-passes, type-in, readPasses, detail-passes}
+use Rattle.judge.proofs.Words.{list-rising}
 
 -- ---- Details
 
@@ -97,15 +102,39 @@ order-range true range unbuilt list colon impossible e = absurd (omega arith)
 order-range false true unbuilt list colon impossible e = absurd (omega arith)
 order-range false false unbuilt list colon impossible e = refl
 
-module _ (w : Written) (ty : EventType) (t : TypeIn ty) (h : byteAt (w .detail) 0 < 256) where
-  kept-in : eventNumber w ty ≡ 0 → EventIn (keptEvent w ty)
-  unfolding eventNumber keptEvent setMask clearMask
-  kept-in e =
+clear-below : (list : ModifierList) (added : Added) → keptClear list added < 8192
+unfolding keptClear clearMask
+clear-below list added = go (hasNames list added)
+  where
+    go : (b : Bool) → cond b (mask (listsClear list)) (mask (asksClear list)) < 8192
+    go true = mask-below (listsClear list)
+    go false = mask-below (asksClear list)
+
+names-below : (list : ModifierList) (added : Added) → namesMask list added < 256
+unfolding namesMask
+names-below list added = forms-below (λ k. any (listsForm k) (modifiersOf list) || addsForm added k)
+
+keysyms-in : (list : ModifierList) → WordsIn (modifiersOf list) → isCrowded list ≡ false → KeysymsIn (keysymsIn (keysymsOf list))
+unfolding isCrowded
+keysyms-in list h e =
+    record {
+      all = keysymsOf list;
+      rising = list-rising list h;
+      few = ltb-false keysymsOfEventLimit (length (keysymsOf list)) e;
+      places = refl;
+    }
+
+module _ (w : Written) (ty : EventType) (t : TypeIn ty) (h : WrittenIn (event w)) where
+  kept-in : eventNumber w ty ≡ 0 → isCrowded (w .list) ≡ false → EventIn (keptEvent w ty)
+  unfolding eventNumber keptEvent setMask
+  kept-in e f =
       let r : isOutOfRange w ty ≡ false =
       order-range (isUnknown w ty) (isOutOfRange w ty) (isUnbuilt w ty) (isListNotTaken w ty) (isColonMisplaced w ty)
-      (isImpossible (keptEvent w ty)) e in
+      (isImpossible w ty) e in
+      let b : (anyTooLarge (w .list) || countBad (ty .code) (w .count)) ≡ false =
+      either-left (anyTooLarge (w .list) || countBad (ty .code) (w .count)) (detailTooLarge ty (w .detail)) r in
       let n : CountIn (ty .code) (countValue (w .count)) =
-      count-in (ty .code) (w .count) (either-left (countBad (ty .code) (w .count)) (detailTooLarge ty (w .detail)) r) in
+      count-in (ty .code) (w .count) (either-right (anyTooLarge (w .list)) (countBad (ty .code) (w .count)) b) in
       record {
         code-from = t .code-from;
         code-to = t .code-to;
@@ -113,31 +142,36 @@ module _ (w : Written) (ty : EventType) (t : TypeIn ty) (h : byteAt (w .detail) 
         count-to = n .to;
         count-taken = n .taken;
         set = mask-below (asksSet (w .list) (ty .added));
-        clear = mask-below (asksClear (w .list));
-        detail = detail-in ty (w .detail) t h;
+        clear = clear-below (w .list) (ty .added);
+        detail = detail-in ty (w .detail) t (h .0);
+        names = names-below (w .list) (ty .added);
+        keysyms = keysyms-in (w .list) (h .1) f;
       }
 
-  unless-in : (k e : KeptEvent) (n : ℕ) → (n ≡ 0 → EventIn k) → keepUnless n k ≡ Judged.Keep e → EventIn e
-  unless-in k e n f p = go (eqb n 0) refl p
+  unless-in : (k e : KeptEvent) (n : ℕ) (crowded : Bool) → (n ≡ 0 → crowded ≡ false → EventIn k)
+      → keepUnless n crowded k ≡ Judged.Keep e → EventIn e
+  unless-in k e n crowded f p = go (eqb n 0) refl crowded refl p
     where
-      go : (b : Bool) → eqb n 0 ≡ b → cond b (Judged.Keep k) (Judged.Refuse n) ≡ Judged.Keep e → EventIn e
-      go true q p = let i : k ≡ e = cc in subst EventIn i (f (eqb-true n 0 q))
-      go false q p = let z : _≡_ {A = ℕ} 0 1 = cc in absurd (omega arith)
+      go : (b : Bool) → eqb n 0 ≡ b → (c : Bool) → crowded ≡ c
+          → cond b (cond c Judged.Crowded (Judged.Keep k)) (Judged.Refuse n) ≡ Judged.Keep e → EventIn e
+      go true q false r p = let i : k ≡ e = cc in subst EventIn i (f (eqb-true n 0 q) r)
+      go true q true r p = let z : _≡_ {A = ℕ} 0 1 = cc in absurd (omega arith)
+      go false q c r p = let z : _≡_ {A = ℕ} 0 1 = cc in absurd (omega arith)
 
   pub known-in : (e : KeptEvent) → judgedAs w (TypeName.Known ty) ≡ Judged.Keep e → EventIn e
-  known-in e p = unless-in (keptEvent w ty) e (eventNumber w ty) kept-in p
+  known-in e p = unless-in (keptEvent w ty) e (eventNumber w ty) (isCrowded (w .list)) kept-in p
 
-as-in : (w : Written) (n : TypeName) (e : KeptEvent) → typeNamed (w .typeName) ≡ n → byteAt (w .detail) 0 < 256
+as-in : (w : Written) (n : TypeName) (e : KeptEvent) → typeNamed (w .typeName) ≡ n → WrittenIn (event w)
     → judgedAs w n ≡ Judged.Keep e → EventIn e
 as-in w (TypeName.Known ty) e q h p = known-in w ty (type-in (w .typeName) ty q) h e p
 as-in w TypeName.Unknown e q h p = let z : _≡_ {A = ℕ} 0 1 = cc in absurd (omega arith)
 
-pub written-in : (w : Written) (e : KeptEvent) → byteAt (w .detail) 0 < 256 → judgedWritten w ≡ Judged.Keep e → EventIn e
+pub written-in : (w : Written) (e : KeptEvent) → WrittenIn (event w) → judgedWritten w ≡ Judged.Keep e → EventIn e
 unfolding judgedWritten
 written-in w e h p = as-in w (typeNamed (w .typeName)) e refl h p
 
-key-press-in : (set byte : ℕ) → set < 8192 → byte < 256 → EventIn (keyPressOf set byte)
-key-press-in set byte hs hb =
+key-press-in : (set names byte : ℕ) → set < 8192 → names < 256 → byte < 256 → EventIn (keyPressOf set names byte)
+key-press-in set names byte hs hn hb =
     record {
       code-from = lit≤ tt;
       code-to = lit≤ tt;
@@ -147,14 +181,19 @@ key-press-in set byte hs hb =
       set = hs;
       clear = lit< tt;
       detail = omega arith;
+      names = hn;
+      keysyms = record { all = []; rising = tt; few = lit≤ tt; places = refl };
     }
 
 pub mark-in : (mark : KeyMark) (byte : ℕ) (e : KeptEvent) → byte < 256 → judgedMark mark byte ≡ Judged.Keep e → EventIn e
-mark-in KeyMark.Plain byte e h p = let i : keyPressOf 0 byte ≡ e = cc in subst EventIn i (key-press-in 0 byte (lit< tt) h)
+mark-in KeyMark.Plain byte e h p =
+    let i : keyPressOf 0 0 byte ≡ e = cc in subst EventIn i (key-press-in 0 0 byte (lit< tt) (lit< tt) h)
 mark-in KeyMark.Control byte e h p =
-    let i : keyPressOf 4 byte ≡ e = cc in subst EventIn i (key-press-in 4 byte (lit< tt) h)
-mark-in KeyMark.Quoted byte e h p = let i : keyPressOf 0 byte ≡ e = cc in subst EventIn i (key-press-in 0 byte (lit< tt) h)
-mark-in KeyMark.Meta byte e h p = let z : _≡_ {A = ℕ} 0 1 = cc in absurd (omega arith)
+    let i : keyPressOf 4 0 byte ≡ e = cc in subst EventIn i (key-press-in 4 0 byte (lit< tt) (lit< tt) h)
+mark-in KeyMark.Quoted byte e h p =
+    let i : keyPressOf 0 0 byte ≡ e = cc in subst EventIn i (key-press-in 0 0 byte (lit< tt) (lit< tt) h)
+mark-in KeyMark.Meta byte e h p =
+    let i : keyPressOf 0 1 byte ≡ e = cc in subst EventIn i (key-press-in 0 1 byte (lit< tt) (lit< tt) h)
 
 -- every event that judging keeps is in range
 pub judged-in : (w : WrittenEvent) (e : KeptEvent) → WrittenIn w → judged w ≡ Judged.Keep e → EventIn e

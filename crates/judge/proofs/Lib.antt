@@ -2,6 +2,7 @@ pub mod Same
 pub mod Parts
 pub mod Detailed
 pub mod NameRanges
+pub mod Words
 pub mod EventRanges
 pub mod Reading
 pub mod SpanRanges

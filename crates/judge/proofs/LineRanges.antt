@@ -5,9 +5,10 @@ use mathlib.Core.List.{List, [], _∷_, _++_}
 use mathlib.Core.Option.{Option, none, some}
 use lib.Dec.{leb}
 use lib.ListN.{length}
-use Rattle.model.specs.Lists.{part}
+use Rattle.model.specs.Lists.{any, bytes, part}
 use Rattle.model.specs.Bytes.{byteAt, signAt, isTab, runEnd, skip}
-use Rattle.model.specs.Events.{ModifierList, Count, KeyChar, WrittenEvent, event, key, Modifiers, modifiers, EventsRead, events, listOf, typeAt, countAt, withDetail, withCount, withType, withList, withModifiers, leadAt, modifiersAt, plainEventAt, markedKey, keyAt, oneMoreKey, keysNext, keysFrom, keySequenceAt, eventsFrom, eventsAt, afterEventAt, joinEvents, afterEvents, leftNext, leftFrom, leftSide}
+use Rattle.model.specs.Modifiers.{modifiersOf}
+use Rattle.model.specs.Events.{Modifier, ModifierList, isNamed, isNoneOrAny, standsAlone, Count, KeyChar, WrittenEvent, event, key, Modifiers, modifiers, EventsRead, events, listOf, typeAt, countAt, withDetail, withCount, withType, withList, withModifiers, leadAt, modifiersAt, plainEventAt, markedKey, keyAt, oneMoreKey, keysNext, keysFrom, keySequenceAt, eventsFrom, eventsAt, afterEventAt, joinEvents, afterEvents, leftNext, leftFrom, leftSide}
 use Rattle.model.specs.declared.scan.Class.{Class}
 use Rattle.model.specs.declared.scan.Lead.{Lead}
 use Rattle.model.specs.declared.scan.TypeRead.{TypeRead}
@@ -15,8 +16,8 @@ use Rattle.model.specs.declared.scan.CountRead.{CountRead}
 use Rattle.model.specs.declared.scan.KeyMark.{KeyMark}
 use Rattle.model.specs.declared.scan.KeyRead.{KeyRead}
 use Rattle.model.specs.declared.scan.AfterEvent.{AfterEvent}
-use Rattle.judge.specs.Ranges.{WrittenIn}
-use Rattle.judge.proofs.SpanRanges.{part-in}
+use Rattle.judge.specs.Ranges.{WordsIn, WrittenIn}
+use Rattle.judge.proofs.Words.{part-in, ReadWords, modifiers-in}
 
 abbrev pub AllWritten : List WrittenEvent → Type 0
 AllWritten [] = Unit
@@ -35,6 +36,20 @@ both : {A : Type 0} (P : A → Type 0) (t : Bool) {x y : A} → P x → P y → 
 both P true p q = p
 both P false p q = q
 
+abbrev ListIn : Option ModifierList → Type 0
+ListIn none = Unit
+ListIn (some list) = WordsIn (modifiersOf list)
+
+-- `None` and `Any` have no modifier
+list-of-in : (bang colon : Bool) (ms : List Modifier) → WordsIn ms → ListIn (listOf bang colon ms)
+unfolding listOf
+list-of-in bang colon ms ws =
+    both ListIn (any isNoneOrAny ms)
+    (both ListIn (standsAlone bang colon ms)
+    (both (λ (list : ModifierList). WordsIn (modifiersOf list)) (any (isNamed (bytes "None")) ms) tt tt)
+    tt)
+    ws
+
 append-in : (vs ws : List WrittenEvent) → AllWritten vs → AllWritten ws → AllWritten (vs ++ ws)
 append-in [] ws p q = q
 append-in (v ∷ vs) ws p q = (p .0, append-in vs ws (p .1) q)
@@ -42,30 +57,32 @@ append-in (v ∷ vs) ws p q = (p .0, append-in vs ws (p .1) q)
 module _ (l : List ℕ) (h : (k : ℕ) → byteAt l k < 256) where
   -- ---- An event
 
-  detail-in : (list : ModifierList) (word : List ℕ) (count : Option Count) (start : ℕ) → ReadIn (withDetail l list word count start)
-  detail-in list word count start = (part-in l start (runEnd Class.Detail l start) (h start), tt)
+  detail-in : (list : ModifierList) (word : List ℕ) (count : Option Count) (start : ℕ) → WordsIn (modifiersOf list)
+      → ReadIn (withDetail l list word count start)
+  detail-in list word count start ws = ((part-in l start (runEnd Class.Detail l start) (h start), ws), tt)
 
-  count-in : (list : ModifierList) (word : List ℕ) (c : CountRead) → ReadIn (withCount l list word c)
-  count-in list word CountRead.Broken = tt
-  count-in list word (CountRead.Absent next) = detail-in list word none (skip l next)
-  count-in list word (CountRead.Digits start end plus next) =
-      detail-in list word (some (record { digits = part l start end; plus = plus })) (skip l next)
+  count-in : (list : ModifierList) (word : List ℕ) (c : CountRead) → WordsIn (modifiersOf list) → ReadIn (withCount l list word c)
+  count-in list word CountRead.Broken ws = tt
+  count-in list word (CountRead.Absent next) ws = detail-in list word none (skip l next) ws
+  count-in list word (CountRead.Digits start end plus next) ws =
+      detail-in list word (some (record { digits = part l start end; plus = plus })) (skip l next) ws
 
-  type-in : (list : ModifierList) (t : TypeRead) → ReadIn (withType l list t)
-  type-in list TypeRead.Broken = tt
-  type-in list (TypeRead.Type start end next) = count-in list (part l start end) (countAt l next)
+  type-in : (list : ModifierList) (t : TypeRead) → WordsIn (modifiersOf list) → ReadIn (withType l list t)
+  type-in list TypeRead.Broken ws = tt
+  type-in list (TypeRead.Type start end next) ws = count-in list (part l start end) (countAt l next) ws
 
-  list-in : (o : Option ModifierList) (end : ℕ) → ReadIn (withList l o end)
-  list-in none end = tt
-  list-in (some list) end = type-in list (typeAt l end)
+  list-in : (o : Option ModifierList) (end : ℕ) → ListIn o → ReadIn (withList l o end)
+  list-in none end ws = tt
+  list-in (some list) end ws = type-in list (typeAt l end) ws
 
-  modifiers-in : (lead : Lead) (m : Modifiers) → ReadIn (withModifiers l lead m)
-  modifiers-in lead Modifiers.broken = tt
-  modifiers-in lead (modifiers ms end) = list-in (listOf (lead .bang) (lead .colon) ms) end
+  list-words : (lead : Lead) (m : Modifiers) → ReadWords m → ReadIn (withModifiers l lead m)
+  list-words lead Modifiers.broken ws = tt
+  list-words lead (modifiers ms end) ws =
+      list-in (listOf (lead .bang) (lead .colon) ms) end (list-of-in (lead .bang) (lead .colon) ms ws)
 
   plain-in : (at : ℕ) → ReadIn (plainEventAt l at)
   unfolding plainEventAt
-  plain-in at = modifiers-in (leadAt l at) (modifiersAt l (leadAt l at .next))
+  plain-in at = list-words (leadAt l at) (modifiersAt l (leadAt l at .next)) (modifiers-in l h (leadAt l at .next))
 
   -- ---- A key sequence
 

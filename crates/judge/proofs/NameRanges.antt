@@ -42,7 +42,7 @@ module _ {A : Type 0} (passes : A → Bool) where
 
 abbrev namePasses : ModifierName → Bool
 namePasses (ModifierName.Bit k) = ltb k 13
-namePasses ModifierName.NotBuilt = true
+namePasses (ModifierName.Named n) = ltb n 4
 namePasses ModifierName.Unknown = true
 
 names-pass : all (λ (e : Entry ModifierName). namePasses (e .meaning)) modifierEntries ≡ true
@@ -57,7 +57,7 @@ name-in word =
   where
     go : (n : ModifierName) → namePasses n ≡ true → NameIn n
     go (ModifierName.Bit k) e = ltb-true k 13 e
-    go ModifierName.NotBuilt e = tt
+    go (ModifierName.Named n) e = ltb-true n 4 e
     go ModifierName.Unknown e = tt
 
 -- ---- Event types
@@ -136,7 +136,7 @@ keysyms-pass : all (λ (e : Entry DetailRead). readPasses (e .meaning)) keysymEn
 unfolding keysymEntries
 keysyms-pass = refl
 
-key-passes : (word : List ℕ) → byteAt word 0 < 256 → readPasses (keyDetail word) ≡ true
+pub key-passes : (word : List ℕ) → byteAt word 0 < 256 → readPasses (keyDetail word) ≡ true
 unfolding keyDetail
 key-passes word h =
     let p : leb (byteAt word 0) keysymLimit ≡ true = le-leb (byteAt word 0) keysymLimit (omega arith) in

@@ -7,14 +7,18 @@ use mathlib.Core.List.{List, [], _∷_, _++_, append-assoc, append-nil}
 use lib.ListN.{length}
 use Rattle.model.specs.Lists.{part}
 use Rattle.model.specs.Events.{Modifier, name, keysym, listed, Modifiers, modifiers, oneMore, modifierAt, modifiersNext, modifiersFrom, modifiersAt}
+use Rattle.model.specs.Bytes.{byteAt}
 use Rattle.model.specs.Names.{modifierNamed}
+use Rattle.model.specs.Details.{keyDetail}
 use Rattle.model.specs.declared.scan.ModifierRead.{ModifierRead}
 use Rattle.list_scanner.specs.ModifierLists.{modifiersIn}
 use Rattle.scanner.proofs.Ranges.{ModifierIn, modifier-in}
 use Rattle.list_scanner.proofs.ListSteps.{modifiers-step}
 use Rattle.list_masks.specs.declared.lists.ListSummary.{ListSummary}
-use Rattle.list_masks.specs.Summary.{summaryOf, withName, withKeysym, SummaryIn}
+use Rattle.list_masks.specs.Summary.{summaryOf, withName, withKeysymRead, SummaryIn}
 use Rattle.list_masks.proofs.Listed.{summary-name, summary-keysym, summary-in}
+use Rattle.judge.specs.Ranges.{WordsIn}
+use Rattle.judge.proofs.Words.{keysym-in, list-rising, words-rising, words-last, part-in}
 
 -- the modifiers of the whole, after those read so far
 abbrev afterAll : List Modifier → Modifiers → List Modifier
@@ -40,6 +44,7 @@ pub record Read (l : List ℕ) (bang colon : Bool) (at : ℕ) (s : ListSummary) 
   pub past : List Modifier
   pub enough : length l < fuel + i
   pub inside : i ≤ length l
+  pub words : WordsIn past
   pub value : s ≡ summaryOf (listed bang colon past)
   pub whole : modifiersIn (modifiersAt l at) ≡ afterAll past (modifiersFrom fuel l i)
 
@@ -54,13 +59,16 @@ module _ (l : List ℕ) (bang colon : Bool) (at : ℕ) where
         past = [];
         enough = omega arith;
         inside = h;
+        words = tt;
         value = e;
         whole = after-none (modifiersAt l at);
       }
 
   module _ (s : ListSummary) (i : ℕ) (r : Read l bang colon at s i) where
     pub read-value-in : SummaryIn s
-    read-value-in = rw (r .value) (summary-in (listed bang colon (r .past)))
+    read-value-in =
+        rw (r .value)
+        (summary-in (listed bang colon (r .past)) (list-rising (listed bang colon (r .past)) (r .words)))
 
     step : (m : ModifierRead) → modifierAt l i ≡ m
         → modifiersIn (modifiersAt l at) ≡ afterAll (r .past) (modifiersNext l m (λ p. modifiersFrom (pred (r .fuel)) l p))
@@ -84,6 +92,7 @@ module _ (l : List ℕ) (bang colon : Bool) (at : ℕ) where
           past = r .past ++ (name tilde (part l start end) ∷ []);
           enough = omega (arith, r .enough);
           inside = k;
+          words = words-last (r .past) (name tilde (part l start end)) (r .words) tt;
           value =
               q
               ∙ ap (λ (x : ListSummary). withName x tilde (modifierNamed (part l start end))) (r .value)
@@ -94,14 +103,20 @@ module _ (l : List ℕ) (bang colon : Bool) (at : ℕ) where
         }
 
     pub read-keysym : (tilde : Bool) (start end : ℕ) (t : ListSummary) → modifierAt l i ≡ ModifierRead.Keysym tilde start end
-        → t ≡ withKeysym s → i < end → end ≤ length l → Read l bang colon at t end
-    read-keysym tilde start end t e q h k =
+        → t ≡ withKeysymRead s tilde (keyDetail (part l start end)) → i < end → end ≤ length l → byteAt l start < 256
+        → Read l bang colon at t end
+    read-keysym tilde start end t e q h k b =
+        let w : byteAt (part l start end) 0 < 256 = part-in l start end b in
         record {
           fuel = pred (r .fuel);
           past = r .past ++ (keysym tilde (part l start end) ∷ []);
           enough = omega (arith, r .enough);
           inside = k;
-          value = q ∙ ap withKeysym (r .value) ∙ sym (summary-keysym bang colon (r .past) tilde (part l start end));
+          words = words-last (r .past) (keysym tilde (part l start end)) (r .words) w;
+          value =
+              q
+              ∙ ap (λ (x : ListSummary). withKeysymRead x tilde (keyDetail (part l start end))) (r .value)
+              ∙ sym (summary-keysym bang colon (r .past) tilde (part l start end) (words-rising [] (r .past) tt (r .words)) (keysym-in (part l start end) w));
           whole =
               step (ModifierRead.Keysym tilde start end) e
               ∙ after-more (r .past) (keysym tilde (part l start end)) (modifiersFrom (pred (r .fuel)) l end);

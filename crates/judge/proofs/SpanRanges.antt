@@ -1,12 +1,8 @@
 -- The parts that the scanner reads lie in the line, and an event kept of them is in range.
-use Prim.Native.Nat.{ℕ, zero, suc, _-_, _<_}
+use Prim.Native.Nat.{ℕ, _<_}
 use native.Mathlib.Omega.{arith}
-use native.Mathlib.Nat.{add-zero}
 use mathlib.Core.Path.{_≡_}
-use mathlib.Core.List.{List, [], _∷_}
-use lib.ListN.{getD, take, drop}
-use lib.Seq.{getD-drop}
-use Rattle.model.specs.Lists.{part}
+use mathlib.Core.List.{List}
 use Rattle.model.specs.Bytes.{byteAt}
 use Rattle.model.specs.Judging.{judgedWritten}
 use Rattle.model.specs.declared.events.KeptEvent.{KeptEvent}
@@ -16,6 +12,7 @@ use Rattle.event_scanner.specs.declared.events.EventSpans.{EventSpans}
 use Rattle.event_scanner.proofs.EventRanges as scanner
 use Rattle.judge.specs.Ranges.{EventIn}
 use Rattle.judge.specs.Spans.{writtenIn, CountSpanIn, SpansIn}
+use Rattle.judge.proofs.Words.{part-in, spans-words}
 use Rattle.judge.proofs.EventRanges.{written-in}
 
 count-span : (n from : ℕ) (c : CountSpan) → scanner.CountSpanIn n from c → CountSpanIn n c
@@ -34,17 +31,8 @@ spans-within n at s h =
       detail-to = h .within;
     }
 
-first-in : (n : ℕ) (l : List ℕ) → byteAt l 0 < 256 → byteAt (take n l) 0 < 256
-first-in zero l h = omega arith
-first-in (suc n) [] h = h
-first-in (suc n) (b ∷ bs) h = h
-
--- the first byte of a part of a line
-pub part-in : (l : List ℕ) (start end : ℕ) → byteAt l start < 256 → byteAt (part l start end) 0 < 256
-part-in l start end h =
-    first-in (end - start) (drop start l) (rw (getD-drop, add-zero) h)
-
 -- an event that is kept of a line of bytes
-pub spans-kept : (l : List ℕ) (s : EventSpans) (e : KeptEvent) → byteAt l (s .detail .start) < 256
+pub spans-kept : (l : List ℕ) (s : EventSpans) (e : KeptEvent) → ((k : ℕ) → byteAt l k < 256)
     → judgedWritten (writtenIn l s) ≡ Judged.Keep e → EventIn e
-spans-kept l s e h p = written-in (writtenIn l s) e (part-in l (s .detail .start) (s .detail .end) h) p
+spans-kept l s e h p =
+    written-in (writtenIn l s) e (part-in l (s .detail .start) (s .detail .end) (h (s .detail .start)), spans-words l h (s .list)) p

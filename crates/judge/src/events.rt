@@ -1,7 +1,9 @@
 // The checks on one event, in document 01's order, and the event that is kept.
+use keysym_list::no_keysyms;
 use list_masks::lists::ListSummary;
 use list_masks::lists::clause_of;
 use list_masks::lists::clear_of;
+use list_masks::lists::forms_of;
 use list_masks::lists::set_of;
 use model::answers::Judged;
 use model::events::Detail;
@@ -12,15 +14,16 @@ use model::names::EventType;
 use model::scan::KeyMark;
 ghost use mathlib.Core.Path.{_≡_};
 ghost use Prim.Native.Nat.{_-_, _<_};
+ghost use mathlib.Core.Bool.{cond};
 ghost use Rattle.model.specs.Numbers.{eventOrder};
 ghost use Rattle.model.specs.Bytes.{byteAt};
 ghost use Rattle.model.specs.Codes.{isKey, takesCount, takesModifiers};
 ghost use Rattle.model.specs.Modifiers.{addsBit};
 ghost use Rattle.model.specs.Names.{shiftBit};
-ghost use Rattle.model.specs.Judging.{isOneDigit, addsMeta, keyPressOf, judgedMark};
+ghost use Rattle.model.specs.Judging.{isOneDigit, keyPressOf, judgedMark};
 ghost use Rattle.model.specs.declared.names.Added.{Added};
 ghost use Rattle.list_masks.specs.Summary.{SummaryIn, AddedIn};
-ghost use Rattle.judge.specs.Judged.{countOf, countSummary, readSummary, detailSummary, hasStandardBits, colonMisplaced, judgedParts};
+ghost use Rattle.judge.specs.Judged.{countOf, countSummary, readSummary, detailSummary, hasStandardBits, colonMisplaced, keptOf, judgedParts};
 
 // A written count, or none.
 pub struct CountSummary {
@@ -89,17 +92,6 @@ pub fn takes_modifiers(code: u8) -> bool
     ensures { λ r. ⌜ r ≡ takesModifiers code ⌝ }
 {
     (2 <= code) & (code <= 8)
-}
-
-pub fn adds_meta(added: Added) -> bool
-    ensures { λ r. ⌜ r ≡ addsMeta added ⌝ }
-{
-    match added {
-        Added::Nothing => false,
-        Added::Modifier(_) => false,
-        Added::AnyButton => false,
-        Added::Meta => true,
-    }
 }
 
 pub fn adds_shift(added: Added) -> bool
@@ -235,58 +227,90 @@ pub fn colon_misplaced(s: ListSummary, ty: EventType) -> bool
     s.colon & (!key | (standard | shift))
 }
 
+// The bits kept clear: beside names those listed, as they are written.
+fn kept_clear(named: bool, listed: u16, clear: u16) -> u16
+    ensures { λ r. ⌜ r ≡ cond named listed clear ⌝ }
+{
+    if named { listed } else { clear }
+}
+
 // An event of a known type from its parts. All six checks are made, and then the first that applies is picked.
 pub fn judge_parts(ty: EventType, s: ListSummary, c: CountSummary, d: DetailSummary) -> Judged
     requires { ⌜ SummaryIn s × AddedIn (ty .added) ⌝ }
     ensures { λ r. ⌜ r ≡ judgedParts s ty c d ⌝ }
 {
     let added = ty.added;
-    let kept = d.kept;
     let set = set_of(s.set, added);
     let clear = clear_of(s);
     let clause = clause_of(added, set);
-    let meta = adds_meta(added);
     let takes = takes_modifiers(ty.code);
     let colon = colon_misplaced(s, ty);
     let impossible = modifiers::no_state_meets(set, clear, clause);
     let n = event_order(
         s.unknown | d.unknown,
-        c.bad | d.too_large,
-        s.unbuilt | meta | c.unbuilt | d.unbuilt,
+        s.too_large | c.bad | d.too_large,
+        c.unbuilt | d.unbuilt,
         s.written & !takes,
         colon,
         impossible,
     );
-    if n == 0 {
-        return Judged::Keep(KeptEvent {
-            code: ty.code,
-            set,
-            clear,
-            colon: s.colon,
-            clause,
-            detail: kept,
-            count: c.value,
-        });
+    if n != 0 {
+        return Judged::Refuse(n);
     }
-    Judged::Refuse(n)
+    if s.over {
+        return Judged::Crowded;
+    }
+    Judged::Keep(kept_event(ty, s, c, d, set, clear, clause))
 }
 
-// A character of a key sequence.
+// The event that is kept, from its masks.
+fn kept_event(
+    ty: EventType,
+    s: ListSummary,
+    c: CountSummary,
+    d: DetailSummary,
+    set: u16,
+    clear: u16,
+    clause: bool,
+) -> KeptEvent
+    ensures { λ r. ⌜ r ≡ keptOf s ty c d set clear clause ⌝ }
+{
+    let added = ty.added;
+    let kept = d.kept;
+    let keysyms = s.keysyms;
+    let names = forms_of(s.names, added);
+    let named = (names != 0) | (keysyms.first != 0);
+    KeptEvent {
+        code: ty.code,
+        set,
+        clear: kept_clear(named, s.clear, clear),
+        colon: s.colon,
+        clause,
+        detail: kept,
+        count: c.value,
+        bang: named & s.others_clear,
+        names,
+        keysyms,
+    }
+}
+
+// A character of a key sequence: `^` adds Ctrl, and `$` reads as Meta listed.
 pub fn judge_key(mark: KeyMark, byte: u8) -> Judged
     ensures { λ r. ⌜ r ≡ judgedMark mark byte ⌝ }
 {
     match mark {
-        KeyMark::Plain => Judged::Keep(key_press(0, byte)),
-        KeyMark::Control => Judged::Keep(key_press(4, byte)),
-        KeyMark::Quoted => Judged::Keep(key_press(0, byte)),
-        KeyMark::Meta => Judged::Refuse(10),
+        KeyMark::Plain => Judged::Keep(key_press(0, 0, byte)),
+        KeyMark::Control => Judged::Keep(key_press(4, 0, byte)),
+        KeyMark::Quoted => Judged::Keep(key_press(0, 0, byte)),
+        KeyMark::Meta => Judged::Keep(key_press(0, 1, byte)),
     }
 }
 
-// A KeyPress that asks these bits set and tests no other.
-fn key_press(set: u16, byte: u8) -> KeptEvent
-    ensures { λ r. ⌜ r ≡ keyPressOf set byte ⌝ }
+// A KeyPress that asks these bits set, lists these names, and tests no other bit.
+fn key_press(set: u16, names: u8, byte: u8) -> KeptEvent
+    ensures { λ r. ⌜ r ≡ keyPressOf set names byte ⌝ }
 {
+    let keysyms = no_keysyms();
     KeptEvent {
         code: 2,
         set,
@@ -295,5 +319,8 @@ fn key_press(set: u16, byte: u8) -> KeptEvent
         clause: false,
         detail: Detail::Value(byte as u32),
         count: 1,
+        bang: false,
+        names,
+        keysyms,
     }
 }

@@ -6,11 +6,13 @@ use crate::events::judge_parts;
 use event_scanner::events::CountSpan;
 use event_scanner::events::EventSpans;
 use event_scanner::events::ListSpans;
+use keysym_list::no_keysyms;
 use list_masks::lists::ListSummary;
 use list_masks::lists::with_keysym;
 use list_masks::lists::with_name;
 use list_scanner::lists::ListKind;
 use list_scanner::modifiers::modifier_at;
+use lookup::details::key_detail;
 use model::answers::Judged;
 use model::names::TypeName;
 use model::scan::ModifierRead;
@@ -32,14 +34,18 @@ ghost use Rattle.judge.specs.Spans.{loneListOf, writtenIn, CountSpanIn, 
 pub fn led(bang: bool, colon: bool) -> ListSummary
     ensures { λ r. ⌜ r ≡ summaryOf (listed bang colon []) ⌝ }
 {
+    let keysyms = no_keysyms();
     ListSummary {
         written: bang | colon,
         others_clear: bang,
         colon,
         unknown: false,
-        unbuilt: false,
+        too_large: false,
         set: 0,
         clear: 0,
+        names: 0,
+        keysyms,
+        over: false,
     }
 }
 
@@ -47,14 +53,18 @@ pub fn led(bang: bool, colon: bool) -> ListSummary
 pub fn alone(none: bool) -> ListSummary
     ensures { λ r. ⌜ r ≡ summaryOf (loneListOf none) ⌝ }
 {
+    let keysyms = no_keysyms();
     ListSummary {
         written: true,
         others_clear: none,
         colon: false,
         unknown: false,
-        unbuilt: false,
+        too_large: false,
         set: 0,
         clear: 0,
+        names: 0,
+        keysyms,
+        over: false,
     }
 }
 
@@ -74,12 +84,9 @@ pub fn modifiers_from(l: &[u8], bang: bool, colon: bool, at: usize) -> ListSumma
                 s = with_name(s, tilde, name);
                 i = end;
             }
-            ModifierRead::Keysym {
-                tilde: _,
-                start: _,
-                end,
-            } => {
-                s = with_keysym(s);
+            ModifierRead::Keysym { tilde, start, end } => {
+                let read = key_detail(&l[start..end]);
+                s = with_keysym(s, tilde, read);
                 i = end;
             }
         }

@@ -10,7 +10,7 @@ use Rattle.model.specs.Bytes.{byteAt, signAt, isTab}
 use Rattle.model.specs.Tables.{Production}
 use Rattle.model.specs.Events.{KeyChar, WrittenEvent, EventsRead, events, markedKey, keyAt, oneMoreKey, keysNext, keysFrom, eventsAt, afterEventAt, joinEvents, afterEvents, leftNext, leftFrom, leftSide}
 use Rattle.model.specs.Calls.{WrittenCall, CallsRead, calls, rightSide}
-use Rattle.model.specs.Compiling.{passesLimit, withCalls, withEvents, lineRead, EventsJudged, keep, judgedAll, LineOutcome, add, withinLimits, lineJudged, lineFrom, lineOutcome}
+use Rattle.model.specs.Compiling.{passesLimit, withCalls, withEvents, lineRead, EventsJudged, keep, crowded, judgedAll, LineOutcome, add, withinLimits, lineJudged, lineFrom, lineOutcome}
 use Rattle.model.specs.declared.scan.KeyMark.{KeyMark}
 use Rattle.model.specs.declared.scan.KeyRead.{KeyRead}
 use Rattle.model.specs.declared.scan.AfterEvent.{AfterEvent}
@@ -119,6 +119,7 @@ module _ (ps : List Production) (base n : ℕ) where
   judged-in m (keep ks) cs h k w =
       counted-in (productionOf base ks cs)
       (record { some = omega (arith, k .0); events = k .1; calls = calls-in-text base n cs w })
+  judged-in m crowded cs h _ w = tt
   judged-in m (EventsJudged.refuse k) cs h _ w = tt
 
   calls-in : (es : List WrittenEvent) (r : CallsRead) → 1 ≤ length es → JudgedIn (length es) (judgedAll es) → CallsWithin n r

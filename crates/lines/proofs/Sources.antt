@@ -14,7 +14,7 @@ use Rattle.model.specs.Tables.{Call, Production}
 use Rattle.model.specs.Counts.{sequence}
 use Rattle.model.specs.Events.{WrittenEvent, EventsRead, events, leftSide}
 use Rattle.model.specs.Calls.{WrittenCall, CallsRead, calls, rightSide}
-use Rattle.model.specs.Compiling.{productionPasses, totalsPass, passesLimit, withCalls, withEvents, lineRead, EventsJudged, keep, judgedAll, callOf, LineOutcome, add, withinLimits, lineJudged, lineFrom, lineOutcome}
+use Rattle.model.specs.Compiling.{productionPasses, totalsPass, passesLimit, withCalls, withEvents, lineRead, EventsJudged, keep, crowded, judgedAll, callOf, LineOutcome, add, withinLimits, lineJudged, lineFrom, lineOutcome}
 use Rattle.event_scanner.specs.LeftSide.{leftOf}
 use Rattle.event_scanner.proofs.LeftSide.{LeftIn, left-in}
 use Rattle.list_masks.proofs.Listed.{any-last}
@@ -68,6 +68,7 @@ module _ (ps : List Production) (base : ℕ) (l : List ℕ) (p : Production) whe
         right = ap (rightSide l) (sym s) ∙ b;
         shifted = ap (λ (r : Production). r .calls) (sym q);
       }
+  from-judged es next cs crowded a b k e = let z : _≡_ {A = ℕ} 0 1 = cc in absurd (omega arith)
   from-judged es next cs (EventsJudged.refuse n) a b k e = let z : _≡_ {A = ℕ} 0 1 = cc in absurd (omega arith)
 
   from-calls : (es : List WrittenEvent) (next : ℕ) (r : CallsRead) → leftSide l ≡ events es next → rightSide l next ≡ r

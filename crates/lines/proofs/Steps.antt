@@ -9,7 +9,7 @@ use Rattle.model.specs.Bytes.{byteAt, signAt, skip}
 use Rattle.model.specs.Counts.{elementsOf, elementsAt, expanded}
 use Rattle.model.specs.Events.{WrittenEvent, EventsRead, events, leadAt, modifiersAt, typeAt, countAt, keysFrom, eventsAt}
 use Rattle.model.specs.Judging.{judged}
-use Rattle.model.specs.Compiling.{EventsJudged, keep, keepOneMore, judgedNext, judgedAll}
+use Rattle.model.specs.Compiling.{EventsJudged, keep, crowded, keepOneMore, crowdedWith, judgedNext, judgedAll}
 use Rattle.model.specs.declared.scan.TypeRead.{TypeRead}
 use Rattle.model.specs.declared.scan.CountRead.{CountRead}
 use Rattle.model.specs.declared.events.KeptEvent.{KeptEvent}
@@ -94,15 +94,23 @@ counts-in l at h =
 
 abbrev pub JudgedIn : ℕ → EventsJudged → Type 0
 JudgedIn n (keep ks) = (length ks ≡ n) × AllKept ks
+JudgedIn n crowded = Unit
 JudgedIn n (EventsJudged.refuse k) = Unit
 
 more-in : (n : ℕ) (e : KeptEvent) (j : EventsJudged) → judge.EventIn e → JudgedIn n j → JudgedIn (suc n) (keepOneMore e j)
 more-in n e (keep ks) h k = (ap suc (k .0), (h, k .1))
+more-in n e crowded h k = tt
 more-in n e (EventsJudged.refuse m) h k = tt
+
+crowded-in : (n : ℕ) (j : EventsJudged) → JudgedIn n (crowdedWith j)
+crowded-in n (keep ks) = tt
+crowded-in n crowded = tt
+crowded-in n (EventsJudged.refuse m) = tt
 
 next-in : (n : ℕ) (w : WrittenEvent) (d : Judged) (j : EventsJudged) → judge.WrittenIn w → judged w ≡ d → JudgedIn n j
     → JudgedIn (suc n) (judgedNext d j)
 next-in n w (Judged.Keep e) j h q k = more-in n e j (judged-in w e h q) k
+next-in n w Judged.Crowded j h q k = crowded-in (suc n) j
 next-in n w (Judged.Refuse m) j h q k = tt
 
 -- as many as were written, each in range
@@ -122,10 +130,11 @@ expanded-most (e ∷ es) h =
 
 abbrev pub StepIn : ℕ → ℕ → StepJudged → Type 0
 StepIn n at (StepJudged.Refuse k) = Unit
-StepIn n at (StepJudged.Keep a b next) = (at + a ≤ next) × (b ≤ 18 * a) × (next ≤ n)
+StepIn n at (StepJudged.Keep a b one next) = (at + a ≤ next) × (b ≤ 18 * a) × (next ≤ n)
 
 step-of-in : (n at m next : ℕ) (j : EventsJudged) → at + m ≤ next → next ≤ n → JudgedIn m j → StepIn n at (goingOn (keptCounts j) next)
 step-of-in n at m next (keep ks) a b h = (omega (arith, h .0), expanded-most ks (h .1), b)
+step-of-in n at m next crowded a b h = (omega arith, omega arith, b)
 step-of-in n at m next (EventsJudged.refuse k) a b h = tt
 
 step-read-in : (n at : ℕ) (r : EventsRead) → CountsIn n at r → ReadIn r → StepIn n at (stepJudged r)

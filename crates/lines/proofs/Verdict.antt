@@ -13,7 +13,7 @@ use Rattle.model.specs.Tables.{Call, Production}
 use Rattle.model.specs.Counts.{sequence, expanded}
 use Rattle.model.specs.Events.{WrittenEvent, EventsRead, events, leftSide}
 use Rattle.model.specs.Calls.{WrittenCall, CallsRead, calls, rightSide}
-use Rattle.model.specs.Compiling.{productionPasses, passesLimit, withCalls, withEvents, lineRead, EventsJudged, keep, judgedAll, callOf, LineOutcome, add, withinLimits, lineJudged, lineFrom, lineOutcome}
+use Rattle.model.specs.Compiling.{productionPasses, passesLimit, withCalls, withEvents, lineRead, EventsJudged, keep, crowded, judgedAll, callOf, LineOutcome, add, withinLimits, lineJudged, lineFrom, lineOutcome}
 use Rattle.model.specs.declared.events.KeptEvent.{KeptEvent}
 use Rattle.event_scanner.specs.LeftSide.{leftOf}
 use Rattle.call_scanner.specs.RightSide.{rightOf, parameterNumber, mostOf}
@@ -33,6 +33,7 @@ use Rattle.lines.proofs.Sums.{passes-more}
 
 abbrev pub leftVerdict : Totals → ℕ → (count parameters most : ℕ) → LeftJudged → LineJudged
 leftVerdict t right count parameters most (LeftJudged.Refuse n) = LineJudged.Refuse n
+leftVerdict t right count parameters most LeftJudged.Crowded = LineJudged.Refuse pastLimit
 leftVerdict t right count parameters most (LeftJudged.Keep kept elements) =
     limited t (record { events = kept; elements = elements; calls = count; parameters = parameters; right = right }) most
 
@@ -135,6 +136,7 @@ module _ (ps : List Production) (kept : passesLimit ps ≡ false) (base : ℕ) w
       → leftVerdict (totalsOf ps) right (length cs) (inAll parameterNumber cs) (mostOf cs) (keptCounts j)
       ≡ judgedOf right (lineJudged ps base j cs)
   judged-same right (keep ks) cs = limits ps kept base right ks cs
+  judged-same right crowded cs = refl
   judged-same right (EventsJudged.refuse n) cs = refl
 
   calls-same : (right : ℕ) (es : List WrittenEvent) (r : CallsRead)
@@ -184,6 +186,9 @@ module _ (l : List ℕ) (t : Totals) where
 
       pub event-refused : (n : ℕ) → sideJudged (leftSide l) ≡ LeftJudged.Refuse n → Answers l t (LineJudged.Refuse n)
       event-refused n s = with-right (LineJudged.Refuse n) (ap (leftVerdict t next count parameters most) (sym s))
+
+      pub event-crowded : sideJudged (leftSide l) ≡ LeftJudged.Crowded → Answers l t (LineJudged.Refuse pastLimit)
+      event-crowded s = with-right (LineJudged.Refuse pastLimit) (ap (leftVerdict t next count parameters most) (sym s))
 
       pub all-kept : (kept elements : ℕ) (r : LineJudged) → sideJudged (leftSide l) ≡ LeftJudged.Keep kept elements
           → r

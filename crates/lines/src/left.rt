@@ -18,10 +18,12 @@ ghost use Rattle.model.specs.Limits.{textLimit};
 ghost use Rattle.model.specs.Events.{event, keysFrom, eventsAt, leftSide};
 ghost use Rattle.model.specs.Compiling.{judgedAll};
 ghost use Rattle.judge.specs.Spans.{writtenIn, SpansIn};
-ghost use Rattle.lines.specs.Left.{IsRead, keptCounts, sideJudged, goingOn, stepJudged};
+ghost use Rattle.lines.specs.Left.{IsRead, finished, keptCounts, sideJudged, goingOn, stepJudged};
 
 pub enum LeftJudged {
     Refuse(u8),
+    // No event is refused, and one names too many keysyms.
+    Crowded,
     // How many events are kept, and how many they are after expansion.
     Keep { events: usize, elements: usize },
 }
@@ -32,6 +34,7 @@ pub enum StepJudged {
     Keep {
         events: usize,
         elements: usize,
+        crowded: bool,
         next: usize,
     },
 }
@@ -54,6 +57,7 @@ pub fn judge_keys(l: &[u8], at: usize) -> LeftJudged
             }
             KeyRead::Key { mark, byte, next } => match judge_key(mark, byte) {
                 Judged::Refuse(n) => return LeftJudged::Refuse(n),
+                Judged::Crowded => return LeftJudged::Crowded,
                 Judged::Keep(_) => {
                     count += 1;
                     i = next;
@@ -68,9 +72,16 @@ pub fn going_on(judged: LeftJudged, next: usize) -> StepJudged
 {
     match judged {
         LeftJudged::Refuse(n) => StepJudged::Refuse(n),
+        LeftJudged::Crowded => StepJudged::Keep {
+            events: 0,
+            elements: 0,
+            crowded: true,
+            next,
+        },
         LeftJudged::Keep { events, elements } => StepJudged::Keep {
             events,
             elements,
+            crowded: false,
             next,
         },
     }
@@ -83,6 +94,7 @@ pub fn judge_plain(l: &[u8], spans: EventSpans) -> LeftJudged
 {
     match judge_event(l, spans) {
         Judged::Refuse(n) => LeftJudged::Refuse(n),
+        Judged::Crowded => LeftJudged::Crowded,
         Judged::Keep(e) => LeftJudged::Keep {
             events: 1,
             elements: element_count(e.code, e.count),
@@ -113,12 +125,23 @@ pub fn judge_at(l: &[u8], at: usize) -> StepJudged
     }
 }
 
+// What is kept at the end of a line, where no event was refused.
+pub fn finish(crowded: bool, events: usize, elements: usize) -> LeftJudged
+    ensures { λ r. ⌜ r ≡ finished crowded events elements ⌝ }
+{
+    if crowded {
+        return LeftJudged::Crowded;
+    }
+    LeftJudged::Keep { events, elements }
+}
+
 // All events of a line whose left side is in the grammar.
 pub fn judge_left(l: &[u8]) -> LeftJudged
     requires { ⌜ (length (now l) ≤ textLimit) × IsRead (leftSide (now l)) ⌝ }
     ensures { λ r. ⌜ r ≡ sideJudged (leftSide (now (l .entry))) ⌝ }
 {
     let mut at: usize = 0;
+    let mut crowded = false;
     let mut kept: usize = 0;
     let mut expanded: usize = 0;
     loop {
@@ -127,8 +150,10 @@ pub fn judge_left(l: &[u8]) -> LeftJudged
             StepJudged::Keep {
                 events,
                 elements,
+                crowded: one,
                 next,
             } => {
+                crowded = one | crowded;
                 kept += events;
                 expanded += elements;
                 match after_event_at(l, next) {
@@ -136,12 +161,7 @@ pub fn judge_left(l: &[u8]) -> LeftJudged
                     AfterEvent::Comma(next) => {
                         at = next;
                     }
-                    AfterEvent::Colon(_) => {
-                        return LeftJudged::Keep {
-                            events: kept,
-                            elements: expanded,
-                        };
-                    }
+                    AfterEvent::Colon(_) => return finish(crowded, kept, expanded),
                 }
             }
         }

@@ -74,6 +74,7 @@ pub fn judge_line(l: &[u8], t: Totals) -> LineJudged
                 most,
             } => match judge_left(l) {
                 LeftJudged::Refuse(n) => LineJudged::Refuse(n),
+                LeftJudged::Crowded => LineJudged::Refuse(11),
                 LeftJudged::Keep { events, elements } => {
                     let line = Line {
                         events,

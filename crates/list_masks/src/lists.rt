@@ -1,24 +1,49 @@
 // What a written modifier list asks, as one value, and the masks that an event keeps of it.
+use keysym_list::with_one_more;
+use model::events::Keysyms;
 use model::names::Added;
+use model::names::DetailRead;
 use model::names::ModifierName;
 ghost use mathlib.Core.Path.{_≡_};
 ghost use Prim.Native.Nat.{_<_};
+ghost use Rattle.model.specs.Named.{formBit};
 ghost use Rattle.model.specs.declared.names.Added.{Added};
+ghost use Rattle.model.specs.declared.names.DetailRead.{DetailRead};
 ghost use Rattle.model.specs.declared.names.ModifierName.{ModifierName};
-ghost use Rattle.list_masks.specs.Summary.{withName, withKeysym, setOf, clearOf, clauseOf, SummaryIn, NameIn, AddedIn};
+ghost use Rattle.list_masks.specs.Summary.{withForm, withName, withKeysymRead, setOf, clearOf, clauseOf, formsOf, SummaryIn, NameIn, KeysymReadIn, AddedIn};
 
-// A modifier list: what is written, and the bits that it lists without `~` and with it.
+// A modifier list: what is written, and what it lists without `~` and with it.
 pub struct ListSummary {
     // Something is written before `<`.
     pub written: bool,
     // `!` or `None`.
     pub others_clear: bool,
     pub colon: bool,
-    // Some name is unknown, some form is not built yet.
+    // Some name or some run after `@` is unknown; some number after `@` is out of range.
     pub unknown: bool,
-    pub unbuilt: bool,
+    pub too_large: bool,
     pub set: u16,
     pub clear: u16,
+    // Meta, Alt, Hyper and Super: bits 0..3, with `~` bits 4..7.
+    pub names: u8,
+    // The first four keysyms after `@`, and whether there are more.
+    pub keysyms: Keysyms,
+    pub over: bool,
+}
+
+// Eight bits of names with one more.
+fn with_form(names: u8, k: u8) -> u8
+    requires { ⌜ k < 8 ⌝ }
+    ensures { λ r. ⌜ r ≡ withForm names k ⌝ }
+{
+    modifiers::with_bit(names as u16, k) as u8
+}
+
+fn form_bit(tilde: bool, n: u8) -> u8
+    requires { ⌜ n < 4 ⌝ }
+    ensures { λ r. ⌜ r ≡ formBit tilde n ⌝ }
+{
+    if tilde { n + 4 } else { n }
 }
 
 // The list with one more modifier, a name.
@@ -33,8 +58,8 @@ pub fn with_name(s: ListSummary, tilde: bool, name: ModifierName) -> ListSummary
             t.unknown = true;
             t
         }
-        ModifierName::NotBuilt => {
-            t.unbuilt = true;
+        ModifierName::Named(n) => {
+            t.names = with_form(s.names, form_bit(tilde, n));
             t
         }
         ModifierName::Bit(k) => {
@@ -48,14 +73,32 @@ pub fn with_name(s: ListSummary, tilde: bool, name: ModifierName) -> ListSummary
     }
 }
 
-// The list with one more modifier, `@` with a keysym.
-pub fn with_keysym(s: ListSummary) -> ListSummary
-    ensures { λ r. ⌜ r ≡ withKeysym s ⌝ }
+// The list with one more modifier, `@` with a run that reads so.
+pub fn with_keysym(s: ListSummary, tilde: bool, read: DetailRead) -> ListSummary
+    requires { ⌜ SummaryIn s × KeysymReadIn read ⌝ }
+    ensures { λ r. ⌜ r ≡ withKeysymRead s tilde read ⌝ }
 {
     let mut t = s;
     t.written = true;
-    t.unbuilt = true;
-    t
+    match read {
+        DetailRead::Unknown => {
+            t.unknown = true;
+            t
+        }
+        DetailRead::TooLarge => {
+            t.too_large = true;
+            t
+        }
+        DetailRead::NotBuilt => t,
+        DetailRead::Value(v) => {
+            let keysyms = s.keysyms;
+            let slots = with_one_more(keysyms, s.over, tilde, v);
+            let more = slots.keysyms;
+            t.keysyms = more;
+            t.over = slots.over;
+            t
+        }
+    }
 }
 
 // The bits asked set: those listed, and the one that the type's name adds.
@@ -98,5 +141,17 @@ pub fn clause_of(added: Added, set: u16) -> bool
         Added::Modifier(_) => false,
         Added::AnyButton => set < 256,
         Added::Meta => false,
+    }
+}
+
+// The names of an event: those listed, and Meta where the type's name adds it.
+pub fn forms_of(names: u8, added: Added) -> u8
+    ensures { λ r. ⌜ r ≡ formsOf names added ⌝ }
+{
+    match added {
+        Added::Nothing => names,
+        Added::Modifier(_) => names,
+        Added::AnyButton => names,
+        Added::Meta => with_form(names, 0),
     }
 }

@@ -44,10 +44,10 @@ module _ {A : Type 0} (test : A → Bool) where
 
 -- ---- Modifiers
 
--- a bit is one of 0..12
+-- a bit is one of 0..12, a name whose bits the modifier map gives one of 0..3
 abbrev pub modifierSound : ModifierName → Bool
 modifierSound (ModifierName.Bit b) = ltb b 13
-modifierSound ModifierName.NotBuilt = true
+modifierSound (ModifierName.Named n) = ltb n 4
 modifierSound ModifierName.Unknown = true
 
 pub modifier-sound : (w : List ℕ) → modifierSound (modifierNamed w) ≡ true

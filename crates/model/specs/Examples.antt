@@ -1,6 +1,6 @@
 -- Document 01, "Examples on each side": the starred lines, as one table of what is asked and what is answered.
 -- That the definitions give every answer of it is proved in proofs/Starred.
-use Prim.Native.Nat.{ℕ, _+_, _/_, _%_}
+use Prim.Native.Nat.{ℕ, _/_, _%_}
 use Prim.Native.Char.{code}
 use mathlib.Core.Path.{_≡_}
 use mathlib.Core.List.{List, [], _∷_, _++_, map}

@@ -83,11 +83,11 @@ nameMarks = map markOf allNames
 
 -- ---- What names stand for, as numbers
 
--- a modifier's bit, 0..12, and 13 for one that is not built
+-- a modifier's bit, 0..12, and from 13 on Meta, Alt, Hyper and Super
 abbrev pub bitNumber : ModifierName → ℕ
 bitNumber (ModifierName.Bit b) = b
-bitNumber ModifierName.NotBuilt = 13
-bitNumber ModifierName.Unknown = 14
+bitNumber (ModifierName.Named n) = n + 13
+bitNumber ModifierName.Unknown = 17
 
 -- the modifier that a type's name adds: a bit, 0..12, or 13 for none, 14 for any button, 15 for Meta
 abbrev pub addedNumber : Added → ℕ
@@ -136,7 +136,7 @@ detailValues =
 -- the modifier at a place
 unfoldable pub modifierRow : ℕ → ModifierName
 modifierRow i =
-    cond (ltb (getD modifierBits i 0) 13) (ModifierName.Bit (getD modifierBits i 0)) ModifierName.NotBuilt
+    cond (ltb (getD modifierBits i 0) 13) (ModifierName.Bit (getD modifierBits i 0)) (ModifierName.Named (getD modifierBits i 0 - 13))
 
 abbrev pub addedOf : ℕ → Added
 addedOf n =

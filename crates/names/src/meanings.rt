@@ -18,7 +18,7 @@ pub fn modifier_at(i: usize) -> ModifierName
     if bit < 13 {
         return ModifierName::Bit(bit);
     }
-    ModifierName::NotBuilt
+    ModifierName::Named(bit - 13)
 }
 
 pub fn added_of(n: u8) -> Added

@@ -525,7 +525,7 @@ const NAME_MARKS: [u32; 155] = [
     0x03790041, // Any
 ];
 
-// Of each modifier name its bit; 13 where the modifier is not built.
+// Of each modifier name its bit; 13..16 for Meta, Alt, Hyper and Super.
 const MODIFIER_BITS: [u8; 24] = [
     2, // Ctrl
     2, // c
@@ -545,12 +545,12 @@ const MODIFIER_BITS: [u8; 24] = [
     12, // Button5
     13, // Meta
     13, // m
-    13, // Hyper
-    13, // h
-    13, // Super
-    13, // su
-    13, // Alt
-    13, // a
+    15, // Hyper
+    15, // h
+    16, // Super
+    16, // su
+    14, // Alt
+    14, // a
 ];
 
 // Of each event type's name the event code: the protocol's names, then Appendix B's synonyms and abbreviations.

@@ -2,23 +2,27 @@
 use Prim.Native.Nat.{ℕ, _≤_}
 use Prim.Native.Char.{code}
 use native.Mathlib.Omega.{arith}
-use mathlib.Core.Path.{_≡_, refl, ap, ap₂}
+use mathlib.Core.Path.{_≡_, refl, sym, ap, ap₂, _∙_}
 use mathlib.Core.Bool.{Bool, true, false, cond, not, _&&_, _||_}
 use mathlib.Core.List.{List, [], _∷_, _++_}
 use lib.Dec.{leb, ltb}
 use borrow.Author.Tests.{eqb-true, leb-true, le-leb, ne-eqb}
-use Rattle.model.specs.Lists.{bytes, all, those}
+use Rattle.model.specs.Lists.{bytes, all}
 use Rattle.model.specs.Bytes.{isCode, inRange, isTab, isNewline}
-use Rattle.model.specs.Modifiers.{bit}
-use Rattle.model.specs.Canonical.{joinedBy, each, writingOrder, bitName, bitText, isWrittenBit, writesBang, bitsText, modifiersText, typeText, valueText, detailText, decimal, countText, eventText}
+use Rattle.model.specs.Events.{Modifier, name, keysym}
+use Rattle.model.specs.Canonical.{joinedBy, each, writesBang, listText, modifiersText, typeText, valueText, detailText, decimal, countText, eventText}
 use Rattle.model.specs.declared.events.Detail.{Detail}
 use Rattle.model.specs.declared.events.KeptEvent.{KeptEvent}
 use Rattle.modifiers.proofs.Below.{both-left, both-right}
 use Rattle.grammar.specs.Bytes.{allowedByte, letter, isDigitSign, letterOrDigit, namechar, quotedByte, lineByte}
+use Rattle.grammar.specs.Tokens.{isSome}
+use Rattle.grammar.specs.Modifiers.{isLoneName}
 use Rattle.grammar.proofs.Places.{nor-right}
 use Rattle.roundtrip.specs.Contents.{CallBytes, Content}
 use Rattle.roundtrip.proofs.Lists.{either, choose, all-append, all-mono}
-use Rattle.roundtrip.proofs.Names.{wellNamed, well-named, bits-named, typeOf, WellTyped, well-typed}
+use Rattle.roundtrip.proofs.Names.{typeOf, WellTyped, well-typed}
+use Rattle.roundtrip.proofs.Written.{modifiersOf}
+use Rattle.roundtrip.proofs.ListText.{modifierText, list-texts, wellWritten, list-written}
 use Rattle.roundtrip.proofs.Numbers.{one-digit}
 use Rattle.roundtrip.proofs.Details.{detail-reads}
 use Rattle.roundtrip.proofs.Kept.{DetailFits, KeptWell}
@@ -82,31 +86,39 @@ joined-clean sep (w ∷ v ∷ ws) s p =
 
 -- ---- An event
 
+modifier-clean : (m : Modifier) → wellWritten m ≡ true → all clean (modifierText m) ≡ true
+modifier-clean (name true w) h =
+    let l : Bool = all letterOrDigit w in
+    let n : Bool = not (isLoneName (name true w)) in
+    letters-clean w (both-left l n (both-right (isSome w) (l && n) h))
+modifier-clean (name false w) h =
+    let l : Bool = all letterOrDigit w in
+    let n : Bool = not (isLoneName (name false w)) in
+    letters-clean w (both-left l n (both-right (isSome w) (l && n) h))
+modifier-clean (keysym true w) h = letters-clean w (both-right (isSome w) (all letterOrDigit w) h)
+modifier-clean (keysym false w) h = letters-clean w (both-right (isSome w) (all letterOrDigit w) h)
+
+each-clean : (ms : List Modifier) → all wellWritten ms ≡ true → all (all clean) (each modifierText ms) ≡ true
+each-clean [] w = refl
+each-clean (m ∷ ms) w =
+    ap₂ _&&_ (modifier-clean m (both-left (wellWritten m) (all wellWritten ms) w)) (each-clean ms (both-right (wellWritten m) (all wellWritten ms) w))
+
 module _ (e : KeptEvent) where
-  bit-clean : (k : ℕ) → wellNamed k ≡ true → all clean (bitText e k) ≡ true
-  bit-clean k w =
-      let n : all clean (bitName k) ≡ true = letters-clean (bitName k) (well-named k w .letters) in
-      choose (bit k (e .set)) (λ q. rw q n) (λ q. rw q n)
-
-  each-clean : (ks : List ℕ) → all wellNamed ks ≡ true → all (all clean) (each (bitText e) ks) ≡ true
-  each-clean [] w = refl
-  each-clean (k ∷ ks) w =
-      ap₂ _&&_ (bit-clean k (both-left (wellNamed k) (all wellNamed ks) w)) (each-clean ks (both-right (wellNamed k) (all wellNamed ks) w))
-
   sign-clean : (b : Bool) (w : List ℕ) → all clean w ≡ true → all clean (cond b w []) ≡ true
   sign-clean true w p = p
   sign-clean false w p = refl
 
+  list-clean : all clean (listText e) ≡ true
+  unfolding listText
+  list-clean =
+      ap (λ (ts : List (List ℕ)). all clean (joinedBy (bytes " ") ts)) (sym (list-texts e))
+      ∙ joined-clean (bytes " ") (each modifierText (modifiersOf e)) refl (each-clean (modifiersOf e) (list-written e))
+
   modifiers-clean : all clean (modifiersText e) ≡ true
-  unfolding modifiersText bitsText
+  unfolding modifiersText
   modifiers-clean =
-      all-append clean (cond (writesBang e) (bytes "!") [])
-      (cond (e .colon) (bytes ":") [] ++ joinedBy (bytes " ") (each (bitText e) (those (isWrittenBit e) writingOrder)))
-      (sign-clean (writesBang e) (bytes "!") refl)
-      (all-append clean (cond (e .colon) (bytes ":") []) (joinedBy (bytes " ") (each (bitText e) (those (isWrittenBit e) writingOrder)))
-      (sign-clean (e .colon) (bytes ":") refl)
-      (joined-clean (bytes " ") (each (bitText e) (those (isWrittenBit e) writingOrder)) refl
-      (each-clean (those (isWrittenBit e) writingOrder) (bits-named e))))
+      all-append clean (cond (writesBang e) (bytes "!") []) (cond (e .colon) (bytes ":") [] ++ listText e) (sign-clean (writesBang e) (bytes "!") refl)
+      (all-append clean (cond (e .colon) (bytes ":") []) (listText e) (sign-clean (e .colon) (bytes ":") refl) list-clean)
 
 count-clean : (n : ℕ) → 1 ≤ n → n ≤ 9 → all clean (countText n) ≡ true
 unfolding countText

@@ -1,9 +1,9 @@
 -- The grammar derives the canonical text of an event.
 use Prim.Native.Nat.{ℕ, _≤_, _<_}
 use Prim.Native.Char.{code}
-use mathlib.Core.Path.{_≡_, refl, ap, ap₂, _∙_}
+use mathlib.Core.Path.{_≡_, refl, sym, ap, ap₂, _∙_}
 use mathlib.Core.Bool.{Bool, true, false, cond, not, _&&_, _||_, false≢true}
-use mathlib.Core.List.{List, [], _∷_, _++_, map, append-assoc}
+use mathlib.Core.List.{List, [], _∷_, _++_, append-assoc}
 use mathlib.Core.Option.{none, some}
 use lib.Dec.{eqb, ltb}
 use lib.Seq.{append-snoc}
@@ -11,23 +11,23 @@ use borrow.Author.Tests.{not-true}
 use Rattle.model.specs.Lists as Lists
 use Rattle.model.specs.Lists.{bytes, all}
 use Rattle.model.specs.Bytes.{isCode}
-use Rattle.model.specs.Modifiers.{bit}
 use Rattle.model.specs.Events as Written
-use Rattle.model.specs.Canonical.{joinedBy, each, bitName, bitText, writesBang, bitsText, modifiersText, typeText, detailText, decimal, countText, eventText}
+use Rattle.model.specs.Canonical.{joinedBy, each, writesBang, bitTexts, namesTexts, listText, modifiersText, typeText, detailText, decimal, countText, eventText}
 use Rattle.model.specs.declared.events.Detail.{Detail}
 use Rattle.model.specs.declared.events.KeptEvent.{KeptEvent}
 use Rattle.modifiers.proofs.Below.{both-left, both-right}
-use Rattle.grammar.specs.Bytes.{blank, letter, letterOrDigit, isDigitSign, detailByte}
+use Rattle.grammar.specs.Bytes.{blank, letter, letterOrDigit, isDigitSign, keysymByte, detailByte}
 use Rattle.grammar.specs.Tokens.{beginsWith, Word, Optional, isSome}
 use Rattle.grammar.specs.Modifiers.{isLoneName, parts, DerivesModifierName, DerivesModifier, DerivesModifiers, DerivesModifierList}
 use Rattle.grammar.specs.Events as Grammar
 use Rattle.grammar.proofs.Places.{kind-not}
-use Rattle.roundtrip.proofs.Lists.{choose, begins-not}
-use Rattle.roundtrip.proofs.Names.{wellNamed, well-named, WellNamed, bits-named, typeOf, WellTyped, well-typed}
+use Rattle.roundtrip.proofs.Lists.{choose, all-mono, begins-not}
+use Rattle.roundtrip.proofs.Names.{typeOf, WellTyped, well-typed}
 use Rattle.roundtrip.proofs.Numbers.{OneDigit, one-digit}
 use Rattle.roundtrip.proofs.Details.{detail-reads}
 use Rattle.roundtrip.proofs.Kept.{DetailFits, KeptWell}
-use Rattle.roundtrip.proofs.Written.{modifierOf, bitsOf, listOf, countOf, writtenOf}
+use Rattle.roundtrip.proofs.Written.{modifiersOf, listOf, countOf, writtenOf}
+use Rattle.roundtrip.proofs.ListText.{modifierText, list-texts, wellWritten, list-written}
 use Rattle.roundtrip.proofs.Joined.{behind, joined-behind, joined-none, run, word, no-blanks, sign-after, sign}
 
 -- ---- Bytes
@@ -109,111 +109,151 @@ derive-type w r a s =
 
 -- ---- Modifiers
 
+letter-keysym : (b : ℕ) → letterOrDigit b ≡ true → keysymByte b ≡ true
+letter-keysym b p = rw p
+
+all-keysym : (w : List ℕ) → all letterOrDigit w ≡ true → all keysymByte w ≡ true
+all-keysym w p = all-mono letterOrDigit keysymByte letter-keysym w p
+
+-- what may follow a modifier: a blank or `<`
+record Parted (r : List ℕ) : Type 0 where
+  name : beginsWith letterOrDigit r ≡ false
+  keysym : beginsWith keysymByte r ≡ false
+
+derive-name : (tilde : Bool) (w bs r : List ℕ) → isSome w ≡ true → all letterOrDigit w ≡ true → all blank bs ≡ true → Parted r
+    → DerivesModifierName tilde (bs ++ (w ++ r)) (Written.Modifier.name tilde w) r
+derive-name tilde w bs r s p a b =
+    DerivesModifierName.name (record { blanks = bs; run = run blank bs (w ++ r) a (name-blank w p s) }) (word letterOrDigit w r p s (b .name))
+  where
+    name-blank : (w : List ℕ) → all letterOrDigit w ≡ true → isSome w ≡ true → beginsWith blank (w ++ r) ≡ false
+    name-blank [] p s = absurd (false≢true s)
+    name-blank (c ∷ w) p s = letter-blank c (both-left (letterOrDigit c) (all letterOrDigit w) p)
+
+derive-keysym : (tilde : Bool) (w bs r : List ℕ) → isSome w ≡ true → all letterOrDigit w ≡ true → all blank bs ≡ true → Parted r
+    → DerivesModifierName tilde (bs ++ (code "@" ∷ (w ++ r))) (Written.Modifier.keysym tilde w) r
+derive-keysym tilde w bs r s p a b =
+    DerivesModifierName.keysym (sign-after "@" bs (w ++ r) a refl) (word keysymByte w r (all-keysym w p) s (b .keysym))
+
+derive-modifier : (m : Written.Modifier) (bs r : List ℕ) → wellWritten m ≡ true → all blank bs ≡ true → Parted r
+    → DerivesModifier (bs ++ (modifierText m ++ r)) m r
+derive-modifier (Written.Modifier.name true w) bs r h a b =
+    let l : Bool = all letterOrDigit w in
+    let n : Bool = not (isLoneName (Written.Modifier.name true w)) in
+    DerivesModifier.tilde (sign-after "~" bs (w ++ r) a refl)
+    (derive-name true w [] r (both-left (isSome w) (l && n) h) (both-left l n (both-right (isSome w) (l && n) h)) refl b)
+derive-modifier (Written.Modifier.name false w) bs r h a b =
+    let l : Bool = all letterOrDigit w in
+    let n : Bool = not (isLoneName (Written.Modifier.name false w)) in
+    DerivesModifier.plain (derive-name false w bs r (both-left (isSome w) (l && n) h) (both-left l n (both-right (isSome w) (l && n) h)) a b)
+derive-modifier (Written.Modifier.keysym true w) bs r h a b =
+    DerivesModifier.tilde (sign-after "~" bs (code "@" ∷ (w ++ r)) a refl)
+    (derive-keysym true w [] r (both-left (isSome w) (all letterOrDigit w) h) (both-right (isSome w) (all letterOrDigit w) h) refl b)
+derive-modifier (Written.Modifier.keysym false w) bs r h a b =
+    DerivesModifier.plain
+    (derive-keysym false w bs r (both-left (isSome w) (all letterOrDigit w) h) (both-right (isSome w) (all letterOrDigit w) h) a b)
+
+-- the first byte of a list is a letter, `~`, `@` or `<`
+abbrev starts : ℕ → Bool
+starts b = letterOrDigit b || (isCode b "~" || (isCode b "@" || isCode b "<"))
+
+module _ (r : List ℕ) where
+  abbrev rest : List Written.Modifier → List ℕ
+  rest ms = behind (bytes " ") (each modifierText ms) ++ (code "<" ∷ r)
+
+  rest-parts : (ms : List Written.Modifier) → beginsWith parts (rest ms) ≡ true
+  rest-parts [] = refl
+  rest-parts (m ∷ ms) = refl
+
+  rest-stops : (ms : List Written.Modifier) → Parted (rest ms)
+  rest-stops [] = record { name = refl; keysym = refl }
+  rest-stops (m ∷ ms) = record { name = refl; keysym = refl }
+
+  -- those behind the first
+  derive-rest : (ms : List Written.Modifier) → all wellWritten ms ≡ true → DerivesModifiers (rest ms) ms (code "<" ∷ r)
+  derive-rest [] w = DerivesModifiers.none
+  derive-rest (m ∷ ms) w =
+      let d : DerivesModifier (bytes " " ++ (modifierText m ++ rest ms)) m (rest ms) =
+      derive-modifier m (bytes " ") (rest ms) (both-left (wellWritten m) (all wellWritten ms) w) refl (rest-stops ms) in
+      rw (append-assoc (modifierText m) (behind (bytes " ") (each modifierText ms)) (code "<" ∷ r))
+      (DerivesModifiers.more d (rest-parts ms) (derive-rest ms (both-right (wellWritten m) (all wellWritten ms) w)))
+
+  abbrev allTexts : List Written.Modifier → List ℕ
+  allTexts ms = joinedBy (bytes " ") (each modifierText ms) ++ (code "<" ∷ r)
+
+  first-text : (m : Written.Modifier) (ms : List Written.Modifier) → allTexts (m ∷ ms) ≡ modifierText m ++ rest ms
+  first-text m ms =
+      ap {B = List ℕ} (λ x. x ++ (code "<" ∷ r)) (joined-behind (bytes " ") (modifierText m) (each modifierText ms))
+      ∙ append-assoc (modifierText m) (behind (bytes " ") (each modifierText ms)) (code "<" ∷ r)
+
+  derive-all : (ms : List Written.Modifier) → all wellWritten ms ≡ true → DerivesModifiers (allTexts ms) ms (code "<" ∷ r)
+  derive-all [] w = rw (joined-none (bytes " ")) DerivesModifiers.none
+  derive-all (m ∷ ms) w =
+      rw (first-text m ms)
+      (DerivesModifiers.more (derive-modifier m [] (rest ms) (both-left (wellWritten m) (all wellWritten ms) w) refl (rest-stops ms)) (rest-parts ms)
+      (derive-rest ms (both-right (wellWritten m) (all wellWritten ms) w)))
+
+  name-starts : (w m : List ℕ) → all letterOrDigit w ≡ true → isSome w ≡ true → beginsWith starts (w ++ m) ≡ true
+  name-starts [] m p s = absurd (false≢true s)
+  name-starts (c ∷ w) m p s = rw (both-left (letterOrDigit c) (all letterOrDigit w) p)
+
+  modifier-starts : (m : Written.Modifier) (k : List ℕ) → wellWritten m ≡ true → beginsWith starts (modifierText m ++ k) ≡ true
+  modifier-starts (Written.Modifier.name true w) k h = refl
+  modifier-starts (Written.Modifier.name false w) k h =
+      let l : Bool = all letterOrDigit w in
+      let n : Bool = not (isLoneName (Written.Modifier.name false w)) in
+      name-starts w k (both-left l n (both-right (isSome w) (l && n) h)) (both-left (isSome w) (l && n) h)
+  modifier-starts (Written.Modifier.keysym true w) k h = refl
+  modifier-starts (Written.Modifier.keysym false w) k h = refl
+
+  texts-start : (ms : List Written.Modifier) → all wellWritten ms ≡ true → beginsWith starts (allTexts ms) ≡ true
+  texts-start [] w = rw (joined-none (bytes " "))
+  texts-start (m ∷ ms) w = rw (first-text m ms) (modifier-starts m (rest ms) (both-left (wellWritten m) (all wellWritten ms) w))
+
+  begins-blank : (m : List ℕ) → beginsWith starts m ≡ true → beginsWith blank m ≡ false
+  begins-blank [] p = refl
+  begins-blank (b ∷ m) p = ap₂ _||_ (kind-not starts 32 refl b p) (kind-not starts 9 refl b p)
+
+  derive-colon : (c : Bool) (m : List ℕ) → beginsWith starts m ≡ true → Optional ":" (cond c (bytes ":") [] ++ m) c m
+  derive-colon true m p = Optional.there (sign ":" m refl)
+  derive-colon false m p = Optional.missing (no-blanks m (begins-blank m p))
+
+  derive-bang : (b c : Bool) (m : List ℕ) → beginsWith starts m ≡ true
+      → Optional "!" (cond b (bytes "!") [] ++ (cond c (bytes ":") [] ++ m)) b (cond c (bytes ":") [] ++ m)
+  derive-bang true c m p = Optional.there (sign "!" (cond c (bytes ":") [] ++ m) refl)
+  derive-bang false true m p = Optional.missing (no-blanks (code ":" ∷ m) refl)
+  derive-bang false false m p = Optional.missing (no-blanks m (begins-blank m p))
+
+  not-alone : (m : Written.Modifier) → wellWritten m ≡ true → isLoneName m ≡ false
+  not-alone (Written.Modifier.name tilde w) h =
+      let l : Bool = all letterOrDigit w in
+      let n : Bool = not (isLoneName (Written.Modifier.name tilde w)) in
+      not-true (isLoneName (Written.Modifier.name tilde w)) (both-right l n (both-right (isSome w) (l && n) h))
+  not-alone (Written.Modifier.keysym tilde w) h = refl
+
+  none-alone : (ms : List Written.Modifier) → all wellWritten ms ≡ true → Lists.any isLoneName ms ≡ false
+  none-alone [] w = refl
+  none-alone (m ∷ ms) w =
+      ap₂ _||_ (not-alone m (both-left (wellWritten m) (all wellWritten ms) w)) (none-alone ms (both-right (wellWritten m) (all wellWritten ms) w))
+
 module _ (e : KeptEvent) where
-  derive-modifier : (k : ℕ) (bs r : List ℕ) → WellNamed k → all blank bs ≡ true → beginsWith letterOrDigit r ≡ false
-      → DerivesModifier (bs ++ (bitText e k ++ r)) (modifierOf e k) r
-  derive-modifier k bs r n a b =
-      let w : Word letterOrDigit (bitName k ++ r) (bitName k) r = word letterOrDigit (bitName k) r (n .letters) (n .some) b in
-      let f : beginsWith blank (bitName k ++ r) ≡ false = name-blank (bitName k) (n .letters) (n .some) in
-      choose (bit k (e .set))
-      (λ q. rw q (DerivesModifier.plain (DerivesModifierName.name (record { blanks = bs; run = run blank bs (bitName k ++ r) a f }) w)))
-      (λ q. rw q (DerivesModifier.tilde (sign-after "~" bs (bitName k ++ r) a refl) (DerivesModifierName.name (no-blanks (bitName k ++ r) f) w)))
-    where
-      name-blank : (w : List ℕ) → all letterOrDigit w ≡ true → isSome w ≡ true → beginsWith blank (w ++ r) ≡ false
-      name-blank [] p s = absurd (false≢true s)
-      name-blank (c ∷ w) p s = letter-blank c (both-left (letterOrDigit c) (all letterOrDigit w) p)
-
   module _ (r : List ℕ) where
-    abbrev rest : List ℕ → List ℕ
-    rest ks = behind (bytes " ") (each (bitText e) ks) ++ (code "<" ∷ r)
-
-    rest-parts : (ks : List ℕ) → beginsWith parts (rest ks) ≡ true
-    rest-parts [] = refl
-    rest-parts (k ∷ ks) = refl
-
-    rest-stops : (ks : List ℕ) → beginsWith letterOrDigit (rest ks) ≡ false
-    rest-stops [] = refl
-    rest-stops (k ∷ ks) = refl
-
-    -- those behind the first
-    derive-rest : (ks : List ℕ) → all wellNamed ks ≡ true → DerivesModifiers (rest ks) (map (modifierOf e) ks) (code "<" ∷ r)
-    derive-rest [] w = DerivesModifiers.none
-    derive-rest (k ∷ ks) w =
-        let n : WellNamed k = well-named k (both-left (wellNamed k) (all wellNamed ks) w) in
-        let m : DerivesModifier (bytes " " ++ (bitText e k ++ rest ks)) (modifierOf e k) (rest ks) =
-        derive-modifier k (bytes " ") (rest ks) n refl (rest-stops ks) in
-        rw (append-assoc (bitText e k) (behind (bytes " ") (each (bitText e) ks)) (code "<" ∷ r))
-        (DerivesModifiers.more m (rest-parts ks) (derive-rest ks (both-right (wellNamed k) (all wellNamed ks) w)))
-
-    abbrev allBits : List ℕ → List ℕ
-    allBits ks = joinedBy (bytes " ") (each (bitText e) ks) ++ (code "<" ∷ r)
-
-    first-bit : (k : ℕ) (ks : List ℕ) → allBits (k ∷ ks) ≡ bitText e k ++ rest ks
-    first-bit k ks =
-        ap {B = List ℕ} (λ x. x ++ (code "<" ∷ r)) (joined-behind (bytes " ") (bitText e k) (each (bitText e) ks))
-        ∙ append-assoc (bitText e k) (behind (bytes " ") (each (bitText e) ks)) (code "<" ∷ r)
-
-    derive-bits : (ks : List ℕ) → all wellNamed ks ≡ true → DerivesModifiers (allBits ks) (map (modifierOf e) ks) (code "<" ∷ r)
-    derive-bits [] w = rw (joined-none (bytes " ")) DerivesModifiers.none
-    derive-bits (k ∷ ks) w =
-        let n : WellNamed k = well-named k (both-left (wellNamed k) (all wellNamed ks) w) in
-        rw (first-bit k ks)
-        (DerivesModifiers.more (derive-modifier k [] (rest ks) n refl (rest-stops ks)) (rest-parts ks)
-        (derive-rest ks (both-right (wellNamed k) (all wellNamed ks) w)))
-
-    -- the first byte is a letter, `~` or `<`
-    abbrev starts : ℕ → Bool
-    starts b = letterOrDigit b || (isCode b "~" || isCode b "<")
-
-    name-starts : (w m : List ℕ) → all letterOrDigit w ≡ true → isSome w ≡ true → beginsWith starts (w ++ m) ≡ true
-    name-starts [] m p s = absurd (false≢true s)
-    name-starts (c ∷ w) m p s = rw (both-left (letterOrDigit c) (all letterOrDigit w) p)
-
-    bit-starts : (k : ℕ) (m : List ℕ) → WellNamed k → beginsWith starts (bitText e k ++ m) ≡ true
-    bit-starts k m n = choose (bit k (e .set)) (λ q. rw q (name-starts (bitName k) m (n .letters) (n .some))) (λ q. rw q)
-
-    bits-start : (ks : List ℕ) → all wellNamed ks ≡ true → beginsWith starts (allBits ks) ≡ true
-    bits-start [] w = rw (joined-none (bytes " "))
-    bits-start (k ∷ ks) w =
-        rw (first-bit k ks) (bit-starts k (rest ks) (well-named k (both-left (wellNamed k) (all wellNamed ks) w)))
-
-    begins-blank : (m : List ℕ) → beginsWith starts m ≡ true → beginsWith blank m ≡ false
-    begins-blank [] p = refl
-    begins-blank (b ∷ m) p = ap₂ _||_ (kind-not starts 32 refl b p) (kind-not starts 9 refl b p)
-
-    derive-colon : (c : Bool) (m : List ℕ) → beginsWith starts m ≡ true → Optional ":" (cond c (bytes ":") [] ++ m) c m
-    derive-colon true m p = Optional.there (sign ":" m refl)
-    derive-colon false m p = Optional.missing (no-blanks m (begins-blank m p))
-
-    derive-bang : (b c : Bool) (m : List ℕ) → beginsWith starts m ≡ true
-        → Optional "!" (cond b (bytes "!") [] ++ (cond c (bytes ":") [] ++ m)) b (cond c (bytes ":") [] ++ m)
-    derive-bang true c m p = Optional.there (sign "!" (cond c (bytes ":") [] ++ m) refl)
-    derive-bang false true m p = Optional.missing (no-blanks (code ":" ∷ m) refl)
-    derive-bang false false m p = Optional.missing (no-blanks m (begins-blank m p))
-
-    none-alone : (ks : List ℕ) → all wellNamed ks ≡ true → Lists.any isLoneName (map (modifierOf e) ks) ≡ false
-    none-alone [] w = refl
-    none-alone (k ∷ ks) w =
-        ap₂ _||_
-        (not-true (isLoneName (Written.Modifier.name false (bitName k))) (well-named k (both-left (wellNamed k) (all wellNamed ks) w) .plain))
-        (none-alone ks (both-right (wellNamed k) (all wellNamed ks) w))
-
     modifiers-text : modifiersText e ++ (code "<" ∷ r)
-        ≡ cond (writesBang e) (bytes "!") [] ++ (cond (e .colon) (bytes ":") [] ++ allBits (bitsOf e))
-    unfolding modifiersText bitsText
+        ≡ cond (writesBang e) (bytes "!") [] ++ (cond (e .colon) (bytes ":") [] ++ allTexts r (modifiersOf e))
+    unfolding modifiersText listText
     modifiers-text =
         append-assoc (cond (writesBang e) (bytes "!") [])
-        (cond (e .colon) (bytes ":") [] ++ joinedBy (bytes " ") (each (bitText e) (bitsOf e))) (code "<" ∷ r)
+        (cond (e .colon) (bytes ":") [] ++ joinedBy (bytes " ") (bitTexts e ++ namesTexts e)) (code "<" ∷ r)
         ∙ ap {B = List ℕ} (λ x. cond (writesBang e) (bytes "!") [] ++ x)
-        (append-assoc (cond (e .colon) (bytes ":") []) (joinedBy (bytes " ") (each (bitText e) (bitsOf e))) (code "<" ∷ r))
+        (append-assoc (cond (e .colon) (bytes ":") []) (joinedBy (bytes " ") (bitTexts e ++ namesTexts e)) (code "<" ∷ r)
+        ∙ ap {B = List ℕ} (λ (ts : List (List ℕ)). cond (e .colon) (bytes ":") [] ++ (joinedBy (bytes " ") ts ++ (code "<" ∷ r))) (sym (list-texts e)))
 
     derive-list : DerivesModifierList (modifiersText e ++ (code "<" ∷ r)) (listOf e) (code "<" ∷ r)
     unfolding listOf
     derive-list =
-        let p : beginsWith starts (allBits (bitsOf e)) ≡ true = bits-start (bitsOf e) (bits-named e) in
+        let p : beginsWith starts (allTexts r (modifiersOf e)) ≡ true = texts-start r (modifiersOf e) (list-written e) in
         rw modifiers-text
-        (DerivesModifierList.listed (derive-bang (writesBang e) (e .colon) (allBits (bitsOf e)) p) (derive-colon (e .colon) (allBits (bitsOf e)) p)
-        (derive-bits (bitsOf e) (bits-named e)) (none-alone (bitsOf e) (bits-named e)))
+        (DerivesModifierList.listed (derive-bang r (writesBang e) (e .colon) (allTexts r (modifiersOf e)) p) (derive-colon r (e .colon) (allTexts r (modifiersOf e)) p)
+        (derive-all r (modifiersOf e) (list-written e)) (none-alone r (modifiersOf e) (list-written e)))
 
   -- ---- The event
 

@@ -1,9 +1,9 @@
 -- What the canonical text of a kept event derives to is judged to that event.
 use Prim.Native.Nat.{ℕ, _≤_}
 use native.Mathlib.Omega.{arith}
-use mathlib.Core.Path.{_≡_, refl, ap, ap₂, _∙_}
+use mathlib.Core.Path.{_≡_, refl, sym, ap, ap₂, _∙_}
 use mathlib.Core.Bool.{Bool, true, false, cond, not, _&&_, _||_, and-false}
-use mathlib.Core.List.{List, [], _∷_, map}
+use mathlib.Core.List.{List, [], _∷_, _++_, map}
 use mathlib.Core.Option.{some}
 use lib.Dec.{leb, ltb, lit<}
 use borrow.Author.Tests.{ltb-true, ltb-false, lt-leb}
@@ -12,24 +12,28 @@ use Rattle.model.specs.Numbers.{eventOrder}
 use Rattle.model.specs.Codes.{isKey, takesCount, takesModifiers}
 use Rattle.model.specs.Names.{shiftBit, lockBit, typeNamed}
 use Rattle.model.specs.Details.{detailNamed}
-use Rattle.model.specs.Events.{listed, event}
-use Rattle.model.specs.Modifiers.{bit, buttonBits, hasColon, isWritten, addsBit, addsClause, asksSet, keepsClause}
-use Rattle.model.specs.Judging.{modifierUnknown, modifierUnbuilt, nameUnknown, nameUnbuilt, anyUnknown, anyUnbuilt, addsMeta, detailOf, detailUnknown, detailTooLarge, detailUnbuilt, keptDetail, countBad, countUnbuilt, countValue, hasStandard, isUnknown, isOutOfRange, isUnbuilt, isListNotTaken, isColonMisplaced, isImpossible, keptEvent, eventNumber, keepUnless, judgedAs, judgedWritten, judged}
-use Rattle.model.specs.Canonical.{writingOrder, writesBang, detailText, valueText}
+use Rattle.model.specs.Events.{Modifier, listed, event}
+use Rattle.model.specs.Modifiers.{bit, buttonBits, hasColon, isWritten, addsBit, addsClause, asksSet, keepsClause, noStateMeets}
+use Rattle.model.specs.Named as Rules
+use Rattle.model.specs.Named.{keysymsIn, keptAsWritten}
+use Rattle.model.specs.Judging.{modifierUnknown, modifierTooLarge, nameUnknown, readUnknown, readTooLarge, anyUnknown, anyTooLarge, detailOf, detailUnknown, detailTooLarge, detailUnbuilt, keptDetail, countBad, countUnbuilt, countValue, hasStandard, isUnknown, isOutOfRange, isUnbuilt, isListNotTaken, isColonMisplaced, isImpossible, keptEvent, eventNumber, keepUnless, judgedAs, judgedWritten, judged}
+use Rattle.model.specs.Canonical.{writingOrder, asksEvery, writesBang, detailText, valueText}
 use Rattle.model.specs.declared.events.Detail.{Detail}
+use Rattle.model.specs.declared.events.Keysyms.{Keysyms}
 use Rattle.model.specs.declared.events.KeptEvent.{KeptEvent}
 use Rattle.model.specs.declared.names.Added.{Added}
 use Rattle.model.specs.declared.names.EventType.{EventType}
 use Rattle.model.specs.declared.names.TypeName.{TypeName}
 use Rattle.model.specs.declared.answers.Judged.{Judged}
 use Rattle.modifiers.proofs.Below.{both-left, both-right}
-use Rattle.roundtrip.proofs.Lists.{choose}
-use Rattle.roundtrip.proofs.Names.{wellNamed, well-named, bits-named, typeOf, well-typed}
+use Rattle.roundtrip.proofs.Lists.{choose, any-append}
+use Rattle.roundtrip.proofs.Names.{wellNamed, well-named, bits-named, form-named, typeOf, well-typed}
 use Rattle.roundtrip.proofs.Numbers.{OneDigit, one-digit}
 use Rattle.roundtrip.proofs.Details.{Reads, detail-reads}
 use Rattle.roundtrip.proofs.Kept.{DetailFits, KeptWell}
-use Rattle.roundtrip.proofs.Written.{modifierOf, bitsOf, listOf, countOf, writtenOf}
-use Rattle.roundtrip.proofs.Asked.{set-mask, clear-mask, buttons-asked, listed-cared}
+use Rattle.roundtrip.proofs.Written.{modifierOf, bitsOf, formOrder, formOf, keysymsOf, slots, namesOf, listOf, countOf, writtenOf}
+use Rattle.roundtrip.proofs.Named.{no-name, keysym-reads, names-same, keysyms-same, not-crowded}
+use Rattle.roundtrip.proofs.Asked.{set-mask, clear-mask, clear-same, bang-same, buttons-asked, listed-cared}
 
 -- ---- Names
 
@@ -40,19 +44,22 @@ module _ (e : KeptEvent) where
       ap₂ _||_ (ap nameUnknown (well-named k (both-left (wellNamed k) (all wellNamed ks) w) .stands))
       (known ks (both-right (wellNamed k) (all wellNamed ks) w))
 
-  built : (ks : List ℕ) → all wellNamed ks ≡ true → any modifierUnbuilt (map (modifierOf e) ks) ≡ false
-  built [] w = refl
-  built (k ∷ ks) w =
-      ap₂ _||_ (ap nameUnbuilt (well-named k (both-left (wellNamed k) (all wellNamed ks) w) .stands))
-      (built ks (both-right (wellNamed k) (all wellNamed ks) w))
-
   list-known : anyUnknown (listOf e) ≡ false
   unfolding listOf
-  list-known = known (bitsOf e) (bits-named e)
+  list-known =
+      any-append modifierUnknown (map (modifierOf e) (bitsOf e)) (namesOf e)
+      ∙ ap₂ _||_ (known (bitsOf e) (bits-named e))
+      (no-name modifierUnknown e (λ k h. ap nameUnknown (form-named k h .stands)) (λ s t. ap readUnknown (keysym-reads s)))
 
-  list-built : anyUnbuilt (listOf e) ≡ false
+  in-range : (ks : List ℕ) → any modifierTooLarge (map (modifierOf e) ks) ≡ false
+  in-range [] = refl
+  in-range (k ∷ ks) = in-range ks
+
+  list-in-range : anyTooLarge (listOf e) ≡ false
   unfolding listOf
-  list-built = built (bitsOf e) (bits-named e)
+  list-in-range =
+      any-append modifierTooLarge (map (modifierOf e) (bitsOf e)) (namesOf e)
+      ∙ ap₂ _||_ (in-range (bitsOf e)) (no-name modifierTooLarge e (λ k h. refl) (λ s t. ap readTooLarge (keysym-reads s)))
 
 -- ---- Details
 
@@ -96,20 +103,31 @@ count-judged code n low high t =
 
 -- ---- The list
 
--- the bits that are written, by what is asked set and clear
+-- the bits that are written, by what is asked set and clear, and where `!` stands for the clear ones
 abbrev written : ℕ → ℕ → Bool → List ℕ
-written set clear bang = those (λ k. cond bang (bit k set) (bit k set || bit k clear)) writingOrder
+written set clear brief = those (λ k. cond brief (bit k set) (bit k set || bit k clear)) writingOrder
+
+abbrev namesWritten : ℕ → Keysyms → List Modifier
+namesWritten names keysyms = map formOf (those (λ k. bit k names) formOrder) ++ keysymsOf (slots keysyms)
 
 module _ (e : KeptEvent) (w : KeptWell e) where
   bare-bang : takesModifiers (e .code) ≡ false → writesBang e ≡ false
-  unfolding writesBang
-  bare-bang q = rw q
+  unfolding writesBang asksEvery
+  bare-bang q =
+      let b = w .sound .bare q in
+      choose (keptAsWritten e) (λ k. rw k (b .bang)) (λ k. rw (k, q))
+
+  bare-brief : takesModifiers (e .code) ≡ false → (writesBang e && not (keptAsWritten e)) ≡ false
+  bare-brief q = ap (λ (b : Bool). b && not (keptAsWritten e)) (bare-bang q)
 
   not-written : takesModifiers (e .code) ≡ false → isWritten (listOf e) ≡ false
   unfolding listOf
   not-written q =
       let b = w .sound .bare q in
-      λ i. isWritten (listed (bare-bang q i) (b .2 i) (map (modifierOf e) (written (b .0 i) (b .1 i) (bare-bang q i))))
+      λ i.
+      isWritten
+      (listed (bare-bang q i) (b .colon i)
+      (map (modifierOf e) (written (b .set i) (b .clear i) (bare-brief q i)) ++ namesWritten (b .names i) (b .keysyms i)))
 
   list-taken : isListNotTaken (writtenOf e) (typeOf (e .code) (e .clause)) ≡ false
   list-taken =
@@ -155,6 +173,9 @@ module _ (e : KeptEvent) (w : KeptWell e) where
   detailed : DetailJudged (typeOf (e .code) (e .clause)) (detailText (e .code) (e .detail)) (e .detail)
   detailed = detail-judged (e .code) (e .clause) (e .detail) (w .sound .detail)
 
+  keysyms-kept : keysymsIn (Rules.keysymsOf (listOf e)) ≡ e .keysyms
+  keysyms-kept = ap keysymsIn (keysyms-same e (w .range .keysyms)) ∙ sym (w .range .keysyms .places)
+
   kept-same : keptEvent (writtenOf e) (typeOf (e .code) (e .clause)) ≡ e
   unfolding keptEvent
   kept-same =
@@ -162,33 +183,31 @@ module _ (e : KeptEvent) (w : KeptWell e) where
       record {
         code = e .code;
         set = set-mask e w i;
-        clear = clear-mask e w i;
+        clear = clear-same e w i;
         colon = list-colon i;
         clause = clause-same i;
         detail = detailed .kept i;
         count = counted .value i;
+        bang = bang-same e w i;
+        names = names-same e (w .range .names) i;
+        keysyms = keysyms-kept i;
       }
 
-  impossible : KeptEvent → Bool
-  impossible k = isImpossible k
-
-  adds-no-meta : (c : Bool) → addsMeta (cond c Added.AnyButton Added.Nothing) ≡ false
-  adds-no-meta true = refl
-  adds-no-meta false = refl
+  met : isImpossible (writtenOf e) (typeOf (e .code) (e .clause)) ≡ false
+  unfolding isImpossible
+  met = (λ i. noStateMeets (set-mask e w i) (clear-mask e w i) (clause-same i)) ∙ w .sound .possible
 
   no-number : eventNumber (writtenOf e) (typeOf (e .code) (e .clause)) ≡ 0
-  unfolding eventNumber impossible
+  unfolding eventNumber
   no-number =
       let a : isUnknown (writtenOf e) (typeOf (e .code) (e .clause)) ≡ false = ap₂ _||_ (list-known e) (detailed .unknown) in
-      let b : isOutOfRange (writtenOf e) (typeOf (e .code) (e .clause)) ≡ false = ap₂ _||_ (counted .bad) (detailed .large) in
-      let c : isUnbuilt (writtenOf e) (typeOf (e .code) (e .clause)) ≡ false =
-      ap₂ _||_ (ap₂ _||_ (ap₂ _||_ (list-built e) (adds-no-meta (e .clause))) (counted .unbuilt)) (detailed .unbuilt) in
-      let f : impossible (keptEvent (writtenOf e) (typeOf (e .code) (e .clause))) ≡ false = ap impossible kept-same ∙ w .sound .possible in
-      λ i. eventOrder (a i) (b i) (c i) (list-taken i) (colon-placed i) (f i)
+      let b : isOutOfRange (writtenOf e) (typeOf (e .code) (e .clause)) ≡ false = ap₂ _||_ (ap₂ _||_ (list-in-range e) (counted .bad)) (detailed .large) in
+      let c : isUnbuilt (writtenOf e) (typeOf (e .code) (e .clause)) ≡ false = ap₂ _||_ (counted .unbuilt) (detailed .unbuilt) in
+      λ i. eventOrder (a i) (b i) (c i) (list-taken i) (colon-placed i) (met i)
 
   known-type : typeNamed (writtenOf e .typeName) ≡ TypeName.Known (typeOf (e .code) (e .clause))
   known-type = well-typed e (w .range .code-from) (w .range .code-to) (w .sound .motion) .stands
 
   pub judged-again : judged (event (writtenOf e)) ≡ Judged.Keep e
   unfolding judged judgedWritten
-  judged-again = ap (judgedAs (writtenOf e)) known-type ∙ (λ i. keepUnless (no-number i) (kept-same i))
+  judged-again = ap (judgedAs (writtenOf e)) known-type ∙ (λ i. keepUnless (no-number i) (not-crowded e (w .range .keysyms) i) (kept-same i))

@@ -1,8 +1,8 @@
 -- What holds of every event that judging keeps, beyond its ranges: so much that it can be written and judged again.
-use Prim.Native.Nat.{ℕ, _≤_, _<_}
+use Prim.Native.Nat.{ℕ, _+_, _≤_, _<_}
 use native.Mathlib.Omega.{arith}
 use mathlib.Core.Path.{_≡_, refl, sym, ap, ap₂, subst, _∙_}
-use mathlib.Core.Bool.{Bool, true, false, cond, not, _&&_, _||_, false≢true}
+use mathlib.Core.Bool.{Bool, true, false, cond, not, _&&_, _||_, false≢true, and-false}
 use mathlib.Core.List.{List, [], _∷_}
 use lib.Dec.{eqb, leb, ltb, lit<}
 use lib.ListN.{getD}
@@ -15,8 +15,9 @@ use Rattle.model.specs.Codes.{isKey, isButton, motionNotify, hasMode, mappingNo
 use Rattle.model.specs.Names.{shiftBit, lockBit, typeNamed, typeEntries, protocolEntries, synonymEntries, abbreviationEntries}
 use Rattle.model.specs.Details.{detailNamed}
 use Rattle.model.specs.Events.{Modifier, ModifierList, listed, noModifier, anyModifier, Written, WrittenEvent, event, key}
-use Rattle.model.specs.Modifiers.{bit, mask, buttonBits, isShiftOrLock, listsSet, listsClear, has, hasColon, isWritten, addsBit, addsClause, asksOthersClear, untestedByColon, asksSet, asksClear, setMask, clearMask, keepsClause, noStateMeets, asksBit}
-use Rattle.model.specs.Judging.{fixes, detailOf, readValue, keptDetail, hasStandard, isUnknown, isOutOfRange, isUnbuilt, isListNotTaken, isColonMisplaced, isImpossible, keptEvent, eventNumber, keepUnless, judgedAs, judgedWritten, keyPressOf, judgedMark, judged}
+use Rattle.model.specs.Modifiers.{bit, bits, mask, buttonBits, isShiftOrLock, listsSet, listsClear, has, hasColon, isWritten, addsBit, addsClause, asksOthersClear, untestedByColon, asksSet, asksClear, setMask, clearMask, keepsClause, noStateMeets, asksBit, isTestable}
+use Rattle.model.specs.Named.{addsMeta, namesMask, keysymsFrom, keysymsOf, isCrowded, keysymsIn, noKeysyms, hasNames, keepsNames}
+use Rattle.model.specs.Judging.{fixes, detailOf, readValue, keptDetail, hasStandard, isUnknown, isOutOfRange, isUnbuilt, isListNotTaken, isColonMisplaced, isImpossible, keptClear, keptBang, keptEvent, eventNumber, keepUnless, judgedAs, judgedWritten, keyPressOf, judgedMark, judged}
 use Rattle.model.specs.declared.scan.KeyMark.{KeyMark}
 use Rattle.model.specs.declared.events.Detail.{Detail}
 use Rattle.model.specs.declared.events.KeptEvent.{KeptEvent}
@@ -28,11 +29,14 @@ use Rattle.model.specs.declared.answers.Judged.{Judged}
 use Rattle.names.specs.Table.{meaningsIn}
 use Rattle.lookup.proofs.Ranges.{named-passes, addedSound, fixedSound, passes, detailSound, detail-sound}
 use Rattle.modifiers.proofs.Masks.{bit-mask, same-mask, mask-none}
-use Rattle.modifiers.proofs.Below.{both-left, both-right}
+use Rattle.modifiers.proofs.Below.{both-left, both-right, every-at, every-from, none-at, none-from, any-bits, all-buttons}
+use Rattle.keysym_list.specs.Rising.{Rising}
 use Rattle.judge.specs.Ranges.{EventIn, WrittenIn}
 use Rattle.judge.proofs.EventRanges.{judged-in}
+use Rattle.judge.proofs.Words.{list-rising}
 use Rattle.roundtrip.proofs.Lists.{choose, or-left, or-right}
 use Rattle.roundtrip.proofs.Details.{takesDetail}
+use Rattle.roundtrip.proofs.Named.{first-used}
 
 -- the detail is one of the code's
 abbrev pub DetailFits : ℕ → Detail → Type 0
@@ -40,12 +44,25 @@ DetailFits code Detail.Unspecified = Unit
 DetailFits code (Detail.Value v) = (takesDetail code ≡ true) × (detailSound code v ≡ true)
 
 -- nothing is asked of the modifiers
-abbrev pub Bare : KeptEvent → Type 0
-Bare e = (e .set ≡ 0) × (e .clear ≡ 0) × (e .colon ≡ false) × (e .clause ≡ false)
+pub record Bare (e : KeptEvent) : Type 0 where
+  pub set : e .set ≡ 0
+  pub clear : e .clear ≡ 0
+  pub colon : e .colon ≡ false
+  pub clause : e .clause ≡ false
+  pub bang : e .bang ≡ false
+  pub names : e .names ≡ 0
+  pub keysyms : e .keysyms ≡ noKeysyms
+
+-- what is asked clear, names aside: beside them `!` still asks it of the bits that are not listed
+abbrev pub clearTest : KeptEvent → ℕ → Bool
+clearTest e k = bit k (e .clear) || (e .bang && (not (asksBit e k) && isTestable e k))
+
+unfoldable pub wholeClear : KeptEvent → ℕ
+wholeClear e = mask (clearTest e)
 
 -- what the checks 7, 8 and 9 leave, and what the type's name fixes
 pub record Sound (e : KeptEvent) : Type 0 where
-  pub possible : noStateMeets (e .set) (e .clear) (e .clause) ≡ false
+  pub possible : noStateMeets (e .set) (wholeClear e) (e .clause) ≡ false
   pub bare : takesModifiers (e .code) ≡ false → Bare e
   pub key : e .colon ≡ true → isKey (e .code) ≡ true
   pub shift : e .colon ≡ true → asksBit e shiftBit ≡ false
@@ -53,6 +70,8 @@ pub record Sound (e : KeptEvent) : Type 0 where
   pub motion : e .clause ≡ true → e .code ≡ 6
   pub buttons : e .clause ≡ true → any (λ k. bit k (e .set)) buttonBits ≡ false
   pub detail : DetailFits (e .code) (e .detail)
+  -- `!` is kept beside names only
+  pub named : e .bang ≡ true → keepsNames e ≡ true
 
 pub record KeptWell (e : KeptEvent) : Type 0 where
   pub range : EventIn e
@@ -124,13 +143,13 @@ codes-taken code e =
 
 -- a name that adds a modifier is of codes 2..6
 adds-taken : (code : ℕ) (added : Added) → addedSound code added ≡ true → takesModifiers code ≡ false
-    → ((k : ℕ) → addsBit added k ≡ false) × (addsClause added ≡ false)
-adds-taken code Added.Nothing s t = (λ k. refl, refl)
+    → ((k : ℕ) → addsBit added k ≡ false) × (addsClause added ≡ false) × (addsMeta added ≡ false)
+adds-taken code Added.Nothing s t = (λ k. refl, refl, refl)
 adds-taken code (Added.Modifier b) s t =
     absurd (false≢true (sym t ∙ codes-taken code (both-right (ltb b 13) (inRange 2 code 6) s)))
 adds-taken code Added.AnyButton s t =
     let e : code ≡ 6 = eqb-true code motionNotify s in absurd (false≢true (sym t ∙ ap takesModifiers e))
-adds-taken code Added.Meta s t = (λ k. refl, refl)
+adds-taken code Added.Meta s t = let e : code ≡ 2 = eqb-true code 2 s in absurd (false≢true (sym t ∙ ap takesModifiers e))
 
 clause-motion : (code : ℕ) (added : Added) → addedSound code added ≡ true → addsClause added ≡ true → code ≡ 6
 clause-motion code Added.Nothing s t = absurd (false≢true t)
@@ -192,6 +211,36 @@ detail-fits ty word f h =
     (λ x. rw (e, x) tt)
     (λ x. rw (e, x) (read-fits (ty .code) (detailNamed (ty .code) word) (unread (ty .code) word) (detail-sound (ty .code) word h))))
 
+-- ---- Fewer bits asked clear
+
+less-meets : (set more less : ℕ) (clause : Bool) → ((k : ℕ) → k < 13 → bit k less ≡ true → bit k more ≡ true)
+    → noStateMeets set more clause ≡ false → noStateMeets set less clause ≡ false
+unfolding noStateMeets
+less-meets set more less clause h e =
+    let p : any (λ k. bit k set && bit k more) bits ≡ false =
+    or-left (any (λ k. bit k set && bit k more) bits) (clause && all (λ k. bit k more) buttonBits) e in
+    let q : (clause && all (λ k. bit k more) buttonBits) ≡ false =
+    or-right (any (λ k. bit k set && bit k more) bits) (clause && all (λ k. bit k more) buttonBits) e in
+    ap₂ _||_
+    (any-bits (λ k. bit k set && bit k less)
+    ∙ none-from 13 (λ k. bit k set && bit k less)
+    (λ k l. one (bit k set) (bit k more) (bit k less) (h k l) (none-at 13 (λ j. bit j set && bit j more) (sym (any-bits (λ j. bit j set && bit j more)) ∙ p) k l)))
+    (all-less clause (all (λ k. bit k more) buttonBits) (all (λ k. bit k less) buttonBits) buttons q)
+  where
+    one : (s m l : Bool) → (l ≡ true → m ≡ true) → (s && m) ≡ false → (s && l) ≡ false
+    one true m true f x = sym (f refl) ∙ x
+    one true m false f x = refl
+    one false m l f x = refl
+
+    all-less : (c m l : Bool) → (l ≡ true → m ≡ true) → (c && m) ≡ false → (c && l) ≡ false
+    all-less c m l f x = one c m l f x
+
+    buttons : all (λ k. bit k less) buttonBits ≡ true → all (λ k. bit k more) buttonBits ≡ true
+    buttons a =
+        all-buttons (λ k. bit k more)
+        ∙ every-from 5 (λ k. bit (8 + k) more)
+        (λ k l. h (8 + k) (omega arith) (every-at 5 (λ j. bit (8 + j) less) (sym (all-buttons (λ j. bit j less)) ∙ a) k l))
+
 -- ---- An event of a known type
 
 module _ (w : Written) (ty : EventType) (t : TypeFits ty) where
@@ -205,17 +254,51 @@ module _ (w : Written) (ty : EventType) (t : TypeFits ty) where
   unfolding clearMask asksClear
   clear-bit k h = bit-mask (asksClear (w .list)) k h
 
+  listed-bit : (k : ℕ) → k < 13 → bit k (mask (listsClear (w .list))) ≡ listsClear (w .list) k
+  listed-bit k h = bit-mask (listsClear (w .list)) k h
+
   -- beside a colon
   standard-bit : (k : ℕ) → k < 13 → isShiftOrLock k ≡ true → hasColon (w .list) ≡ true → has (w .list) k ≡ false → addsBit (ty .added) k ≡ false
-      → (bit k (setMask (w .list) (ty .added)) || bit k (clearMask (w .list))) ≡ false
+      → (bit k (setMask (w .list) (ty .added)) || bit k (keptClear (w .list) (ty .added))) ≡ false
+  unfolding keptClear
   standard-bit k h s c n a =
       let p : listsSet (w .list) k ≡ false = or-left (listsSet (w .list) k) (listsClear (w .list) k) n in
       let q : listsClear (w .list) k ≡ false = or-right (listsSet (w .list) k) (listsClear (w .list) k) n in
-      rw (set-bit k h, clear-bit k h, p, q, a, c, s) (go (asksOthersClear (w .list)))
+      choose (hasNames (w .list) (ty .added))
+      (λ b. rw (b, set-bit k h, listed-bit k h, p, q, a))
+      (λ b. rw (b, set-bit k h, clear-bit k h, p, q, a, c, s) (go (asksOthersClear (w .list))))
     where
       go : (b : Bool) → (b && true && false) ≡ false
       go true = refl
       go false = refl
+
+  -- no more is asked clear of the event that is kept than of the one that is written
+  clear-less : (k : ℕ) → k < 13 → bit k (wholeClear (keptEvent w ty)) ≡ true → bit k (clearMask (w .list)) ≡ true
+  unfolding wholeClear keptEvent keptClear
+  clear-less k h e =
+      let t : clearTest (keptEvent w ty) k ≡ true = sym (bit-mask (clearTest (keptEvent w ty)) k h) ∙ e in
+      choose (hasNames (w .list) (ty .added))
+      (λ b.
+      rw (clear-bit k h)
+      (fewer (listsSet (w .list) k) (addsBit (ty .added) k) (listsClear (w .list) k) (asksOthersClear (w .list)) (untestedByColon (w .list) k)
+      (rw (b, listed-bit k h, set-bit k h) at t)))
+      (λ b. same (bit k (clearMask (w .list))) (rw b at t))
+    where
+      fewer : (s a c o u : Bool) → (c || (o && (not (s || a || c) && not u))) ≡ true → (c || (o && not (s || c) && not u)) ≡ true
+      fewer s a true o u e = refl
+      fewer s a false false u e = e
+      fewer true a false true u e = e
+      fewer false true false true u e = absurd (false≢true e)
+      fewer false false false true u e = e
+
+      same : (c : Bool) → (c || false) ≡ true → c ≡ true
+      same true e = refl
+      same false e = e
+
+  some-names : Rising (keysymsOf (w .list)) → hasNames (w .list) (ty .added) ≡ true → keepsNames (keptEvent w ty) ≡ true
+  unfolding hasNames keptEvent
+  some-names r e =
+      ap (λ (b : Bool). not (eqb (namesMask (w .list) (ty .added)) 0) || not b) (sym (first-used (keysymsOf (w .list)) r)) ∙ e
 
   misplaced : hasColon (w .list) ≡ true → isColonMisplaced w ty ≡ false → (not (isKey (ty .code)) || hasStandard w ty) ≡ false
   misplaced c e = rw c at e
@@ -235,9 +318,21 @@ module _ (w : Written) (ty : EventType) (t : TypeFits ty) where
       let a : (k : ℕ) → addsBit (ty .added) k ≡ false = adds-taken (ty .code) (ty .added) (t .added) n .0 in
       rw l (same-mask (λ k. false || addsBit (ty .added) k) (λ k. false) (λ k h. a k) ∙ mask-none)
 
-  bare-clear : w .list ≡ listed false false [] → clearMask (w .list) ≡ 0
-  unfolding clearMask asksClear listsClear listsSet
-  bare-clear l = rw l mask-none
+  bare-clear : w .list ≡ listed false false [] → keptClear (w .list) (ty .added) ≡ 0
+  unfolding keptClear clearMask asksClear listsClear listsSet
+  bare-clear l =
+      choose (hasNames (w .list) (ty .added)) (λ b. rw b (rw l mask-none)) (λ b. rw b (rw l mask-none))
+
+  bare-bang : w .list ≡ listed false false [] → keptBang (w .list) (ty .added) ≡ false
+  bare-bang l = ap (λ (b : Bool). hasNames (w .list) (ty .added) && b) (ap asksOthersClear l) ∙ and-false (hasNames (w .list) (ty .added))
+
+  bare-names : takesModifiers (ty .code) ≡ false → w .list ≡ listed false false [] → namesMask (w .list) (ty .added) ≡ 0
+  unfolding namesMask
+  bare-names n l = rw (l, adds-taken (ty .code) (ty .added) (t .added) n .2)
+
+  bare-keysyms : w .list ≡ listed false false [] → keysymsIn (keysymsOf (w .list)) ≡ noKeysyms
+  unfolding keysymsOf keysymsFrom
+  bare-keysyms l = rw l
 
   bare-clause : takesModifiers (ty .code) ≡ false → keepsClause (w .list) (ty .added) ≡ false
   unfolding keepsClause
@@ -253,22 +348,31 @@ module _ (w : Written) (ty : EventType) (t : TypeFits ty) where
       not-true (any (asksSet (w .list) (ty .added)) buttonBits)
       (both-right (addsClause (ty .added)) (not (any (asksSet (w .list) (ty .added)) buttonBits)) c)
 
-  sound-known : getD (w .detail) 0 0 < 256 → eventNumber w ty ≡ 0 → Sound (keptEvent w ty)
-  unfolding eventNumber keptEvent
+  sound-known : WrittenIn (event w) → eventNumber w ty ≡ 0 → Sound (keptEvent w ty)
+  unfolding eventNumber keptEvent isImpossible
   sound-known h n =
-      let p : Passed (isUnknown w ty) (isOutOfRange w ty) (isUnbuilt w ty) (isListNotTaken w ty) (isColonMisplaced w ty) (isImpossible (keptEvent w ty)) =
-      passed (isUnknown w ty) (isOutOfRange w ty) (isUnbuilt w ty) (isListNotTaken w ty) (isColonMisplaced w ty)
-      (isImpossible (keptEvent w ty)) n in
+      let p : Passed (isUnknown w ty) (isOutOfRange w ty) (isUnbuilt w ty) (isListNotTaken w ty) (isColonMisplaced w ty) (isImpossible w ty) =
+      passed (isUnknown w ty) (isOutOfRange w ty) (isUnbuilt w ty) (isListNotTaken w ty) (isColonMisplaced w ty) (isImpossible w ty) n in
       let rest : hasColon (w .list) ≡ true → hasStandard w ty ≡ false =
       λ c. or-right (not (isKey (ty .code))) (hasStandard w ty) (misplaced c (p .colon-placed)) in
       let two : hasColon (w .list) ≡ true → (has (w .list) shiftBit || has (w .list) lockBit) ≡ false =
       λ c. or-left (has (w .list) shiftBit || has (w .list) lockBit) (addsBit (ty .added) shiftBit) (rest c) in
       record {
-        possible = p .possible;
+        possible =
+            less-meets (setMask (w .list) (ty .added)) (clearMask (w .list)) (wholeClear (keptEvent w ty)) (keepsClause (w .list) (ty .added)) clear-less
+            (p .possible);
         bare = λ q.
             let l : w .list ≡ listed false false [] =
             not-written (w .list) (unwritten (isWritten (w .list)) (takesModifiers (ty .code)) q (p .list-taken)) in
-            (bare-set q l, bare-clear l, ap hasColon l, bare-clause q);
+            record {
+              set = bare-set q l;
+              clear = bare-clear l;
+              colon = ap hasColon l;
+              clause = bare-clause q;
+              bang = bare-bang l;
+              names = bare-names q l;
+              keysyms = bare-keysyms l;
+            };
         key = λ c. not-false (isKey (ty .code)) (or-left (not (isKey (ty .code))) (hasStandard w ty) (misplaced c (p .colon-placed)));
         shift = λ c.
             standard-bit shiftBit (lit< tt) refl c (or-left (has (w .list) shiftBit) (has (w .list) lockBit) (two c))
@@ -276,7 +380,8 @@ module _ (w : Written) (ty : EventType) (t : TypeFits ty) where
         lock = λ c. standard-bit lockBit (lit< tt) refl c (or-right (has (w .list) shiftBit) (has (w .list) lockBit) (two c)) (t .lock);
         motion = λ c. clause-motion (ty .code) (ty .added) (t .added) (adds-clause c);
         buttons = λ c. buttons-same ∙ no-buttons c;
-        detail = detail-fits ty (w .detail) (t .fixed) h;
+        detail = detail-fits ty (w .detail) (t .fixed) (h .0);
+        named = λ b. some-names (list-rising (w .list) (h .1)) (both-left (hasNames (w .list) (ty .added)) (asksOthersClear (w .list)) b);
       }
     where
       unwritten : (a b : Bool) → b ≡ false → (a && not b) ≡ false → a ≡ false
@@ -284,25 +389,27 @@ module _ (w : Written) (ty : EventType) (t : TypeFits ty) where
       unwritten true false q e = e
       unwritten false b q e = refl
 
-  unless-sound : (k e : KeptEvent) (n : ℕ) → (n ≡ 0 → Sound k) → keepUnless n k ≡ Judged.Keep e → Sound e
-  unless-sound k e n f p = go (eqb n 0) refl p
+  unless-sound : (k e : KeptEvent) (n : ℕ) (crowded : Bool) → (n ≡ 0 → Sound k) → keepUnless n crowded k ≡ Judged.Keep e → Sound e
+  unless-sound k e n crowded f p = go (eqb n 0) refl crowded p
     where
-      go : (b : Bool) → eqb n 0 ≡ b → cond b (Judged.Keep k) (Judged.Refuse n) ≡ Judged.Keep e → Sound e
-      go true q p = let i : k ≡ e = cc in subst Sound i (f (eqb-true n 0 q))
-      go false q p = let z : _≡_ {A = ℕ} 0 1 = cc in absurd (omega arith)
+      go : (b : Bool) → eqb n 0 ≡ b → (c : Bool) → cond b (cond c Judged.Crowded (Judged.Keep k)) (Judged.Refuse n) ≡ Judged.Keep e → Sound e
+      go true q true p = let z : _≡_ {A = ℕ} 0 1 = cc in absurd (omega arith)
+      go true q false p = let i : k ≡ e = cc in subst Sound i (f (eqb-true n 0 q))
+      go false q c p = let z : _≡_ {A = ℕ} 0 1 = cc in absurd (omega arith)
 
-  known-sound : (e : KeptEvent) → getD (w .detail) 0 0 < 256 → judgedAs w (TypeName.Known ty) ≡ Judged.Keep e → Sound e
-  known-sound e h p = unless-sound (keptEvent w ty) e (eventNumber w ty) (sound-known h) p
+  known-sound : (e : KeptEvent) → WrittenIn (event w) → judgedAs w (TypeName.Known ty) ≡ Judged.Keep e → Sound e
+  known-sound e h p = unless-sound (keptEvent w ty) e (eventNumber w ty) (isCrowded (w .list)) (sound-known h) p
 
-as-sound : (w : Written) (n : TypeName) (e : KeptEvent) → typeNamed (w .typeName) ≡ n → getD (w .detail) 0 0 < 256
+as-sound : (w : Written) (n : TypeName) (e : KeptEvent) → typeNamed (w .typeName) ≡ n → WrittenIn (event w)
     → judgedAs w n ≡ Judged.Keep e → Sound e
 as-sound w (TypeName.Known ty) e q h p = known-sound w ty (known-fits (w .typeName) ty q) e h p
 as-sound w TypeName.Unknown e q h p = let z : _≡_ {A = ℕ} 0 1 = cc in absurd (omega arith)
 
 -- ---- A character of a key sequence
 
-press-sound : (set byte : ℕ) → byte < 256 → noStateMeets set 0 false ≡ false → Sound (keyPressOf set byte)
-press-sound set byte h n =
+press-sound : (set names byte : ℕ) → byte < 256 → noStateMeets set (wholeClear (keyPressOf set names byte)) false ≡ false
+    → Sound (keyPressOf set names byte)
+press-sound set names byte h n =
     record {
       possible = n;
       bare = λ q. absurd (false≢true (sym q));
@@ -312,14 +419,15 @@ press-sound set byte h n =
       motion = λ q. absurd (false≢true q);
       buttons = λ q. absurd (false≢true q);
       detail = (refl, le-leb byte keysymLimit (omega arith));
+      named = λ q. absurd (false≢true q);
     }
 
 mark-sound : (mark : KeyMark) (byte : ℕ) (e : KeptEvent) → byte < 256 → judgedMark mark byte ≡ Judged.Keep e → Sound e
-unfolding noStateMeets
-mark-sound KeyMark.Plain byte e h p = let i : keyPressOf 0 byte ≡ e = cc in subst Sound i (press-sound 0 byte h refl)
-mark-sound KeyMark.Control byte e h p = let i : keyPressOf 4 byte ≡ e = cc in subst Sound i (press-sound 4 byte h refl)
-mark-sound KeyMark.Quoted byte e h p = let i : keyPressOf 0 byte ≡ e = cc in subst Sound i (press-sound 0 byte h refl)
-mark-sound KeyMark.Meta byte e h p = let z : _≡_ {A = ℕ} 0 1 = cc in absurd (omega arith)
+unfolding noStateMeets wholeClear mask
+mark-sound KeyMark.Plain byte e h p = let i : keyPressOf 0 0 byte ≡ e = cc in subst Sound i (press-sound 0 0 byte h refl)
+mark-sound KeyMark.Control byte e h p = let i : keyPressOf 4 0 byte ≡ e = cc in subst Sound i (press-sound 4 0 byte h refl)
+mark-sound KeyMark.Quoted byte e h p = let i : keyPressOf 0 0 byte ≡ e = cc in subst Sound i (press-sound 0 0 byte h refl)
+mark-sound KeyMark.Meta byte e h p = let i : keyPressOf 0 1 byte ≡ e = cc in subst Sound i (press-sound 0 1 byte h refl)
 
 judged-sound : (w : WrittenEvent) (e : KeptEvent) → WrittenIn w → judged w ≡ Judged.Keep e → Sound e
 unfolding judged judgedWritten

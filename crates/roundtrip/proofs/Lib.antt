@@ -1,10 +1,12 @@
 pub mod Holding
 pub mod Lists
 pub mod Numbers
+pub mod Written
 pub mod Names
 pub mod Details
+pub mod Named
+pub mod ListText
 pub mod Kept
-pub mod Written
 pub mod Asked
 pub mod Judged
 pub mod Joined

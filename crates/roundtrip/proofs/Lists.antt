@@ -1,8 +1,10 @@
 -- Laws of the tests of lists.
 use Prim.Native.Nat.{ℕ}
-use mathlib.Core.Path.{_≡_, refl, sym, ap, ap₂}
+use mathlib.Core.Path.{_≡_, refl, sym, ap, ap₂, _∙_}
 use mathlib.Core.Bool.{Bool, true, false, cond, _&&_, _||_, false≢true}
 use mathlib.Core.List.{List, [], _∷_, _++_}
+use lib.Dec.{eqb}
+use borrow.Author.Tests.{eqb-true}
 use Rattle.model.specs.Lists.{any, all, those}
 use Rattle.modifiers.proofs.Below.{both-left, both-right}
 use Rattle.grammar.specs.Tokens.{beginsWith, isSome}
@@ -52,6 +54,14 @@ module _ {A : Type 0} where
       go true q = ap₂ _&&_ (both-left (test x) (all test xs) p) q
       go false q = q
 
+  pub any-append : (test : A → Bool) (xs ys : List A) → any test (xs ++ ys) ≡ (any test xs || any test ys)
+  any-append test [] ys = refl
+  any-append test (x ∷ xs) ys = ap (λ (b : Bool). test x || b) (any-append test xs ys) ∙ sym (or-assoc (test x) (any test xs) (any test ys))
+    where
+      or-assoc : (a b c : Bool) → ((a || b) || c) ≡ (a || (b || c))
+      or-assoc true b c = refl
+      or-assoc false b c = refl
+
   pub any-same : (f g : A → Bool) → ((x : A) → f x ≡ g x) → (xs : List A) → any f xs ≡ any g xs
   any-same f g h [] = refl
   any-same f g h (x ∷ xs) = ap₂ _||_ (h x) (any-same f g h xs)
@@ -68,6 +78,26 @@ module _ {A : Type 0} where
   pub some-append : (xs : List A) (x : A) → isSome (xs ++ (x ∷ [])) ≡ true
   some-append [] x = refl
   some-append (y ∷ ys) x = refl
+
+-- the number k of a list, where it passes
+pub any-at : (h : ℕ → Bool) (k : ℕ) (xs : List ℕ) → any (λ j. h j && eqb j k) xs ≡ (h k && any (λ j. eqb j k) xs)
+any-at h k [] = sym (no (h k))
+  where
+    no : (b : Bool) → (b && false) ≡ false
+    no true = refl
+    no false = refl
+any-at h k (x ∷ xs) =
+    choose (eqb x k)
+    (λ q. rw (q, any-at h k xs, eqb-true x k q) (one (h k) (any (λ j. eqb j k) xs)))
+    (λ q. rw (q, any-at h k xs) (other (h x) (h k) (any (λ j. eqb j k) xs)))
+  where
+    one : (a b : Bool) → (a && true || a && b) ≡ (a && (true || b))
+    one true b = refl
+    one false b = refl
+
+    other : (c a b : Bool) → (c && false || a && b) ≡ (a && (false || b))
+    other true a b = refl
+    other false a b = refl
 
 -- a byte at the front of bytes that all pass one test and then bytes that do not begin so
 pub begins-not : (kind test : ℕ → Bool) → ((b : ℕ) → kind b ≡ true → test b ≡ false) → (w r : List ℕ) → all kind w ≡ true

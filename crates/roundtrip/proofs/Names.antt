@@ -1,17 +1,18 @@
 -- The names that the canonical text has read back, by computed tests over all of them.
-use Prim.Native.Nat.{ℕ, _+_, _-_, _≤_, _<_}
+use Prim.Native.Nat.{ℕ, _+_, _-_, _%_, _≤_, _<_}
 use native.Mathlib.Omega.{arith}
 use mathlib.Core.Path.{_≡_, refl, ap}
 use mathlib.Core.Bool.{Bool, true, false, cond, not, _&&_}
 use mathlib.Core.List.{List, []}
-use lib.Dec.{eqb}
+use lib.Dec.{eqb, leb, ltb}
 use borrow.Author.Tests.{eqb-true}
 use Rattle.model.specs.Lists.{bytes, all, any, those}
 use Rattle.model.specs.Names.{nameOf, modifierEntries, modifierNamed, protocolEntries, synonymEntries, abbreviationEntries, typeEntries, typeNamed}
-use Rattle.model.specs.Modifiers.{isBit}
+use Rattle.model.specs.Modifiers.{isBit, isNamed}
+use Rattle.model.specs.Named.{formBit}
 use Rattle.model.specs.Judging.{fixes}
 use Rattle.model.specs.Events as Written
-use Rattle.model.specs.Canonical.{writingOrder, bitName, isWrittenBit, isCodeOf, typeText}
+use Rattle.model.specs.Canonical.{writingOrder, bitName, isWrittenBit, longName, isCodeOf, typeText}
 use Rattle.model.specs.declared.events.Detail.{Detail}
 use Rattle.model.specs.declared.events.KeptEvent.{KeptEvent}
 use Rattle.model.specs.declared.names.Added.{Added}
@@ -23,6 +24,7 @@ use Rattle.grammar.specs.Bytes.{letterOrDigit}
 use Rattle.grammar.specs.Tokens.{isSome}
 use Rattle.grammar.specs.Modifiers.{isLoneName}
 use Rattle.roundtrip.proofs.Lists.{choose, all-those}
+use Rattle.roundtrip.proofs.Written.{formOrder}
 
 -- ---- Modifiers
 
@@ -53,7 +55,7 @@ ordered k h = every-at 13 inOrder all-ordered k h
 
 is-bit : (k : ℕ) (n : ModifierName) → isBit k n ≡ true → n ≡ ModifierName.Bit k
 is-bit k (ModifierName.Bit n) e = ap ModifierName.Bit (eqb-true n k e)
-is-bit k ModifierName.NotBuilt e = let z : _≡_ {A = ℕ} 0 1 = cc in absurd (omega arith)
+is-bit k (ModifierName.Named n) e = let z : _≡_ {A = ℕ} 0 1 = cc in absurd (omega arith)
 is-bit k ModifierName.Unknown e = let z : _≡_ {A = ℕ} 0 1 = cc in absurd (omega arith)
 
 pub record WellNamed (k : ℕ) : Type 0 where
@@ -74,6 +76,65 @@ well-named k e =
       letters = both-left c d (both-right b (c && d) (both-right a (b && (c && d)) e));
       plain = both-right c d (both-right b (c && d) (both-right a (b && (c && d)) e));
     }
+
+-- ---- Meta, Alt, Hyper, Super
+
+-- so with the name of a form, by the form's bit
+abbrev formNamed : ℕ → Bool
+formNamed k =
+    isNamed (k % 4) (modifierNamed (longName (k % 4)))
+    && (eqb (formBit (leb 4 k) (k % 4)) k
+    && (isSome (longName (k % 4))
+    && (all letterOrDigit (longName (k % 4)) && not (isLoneName (Written.Modifier.name false (longName (k % 4)))))))
+
+forms-named : every 8 formNamed ≡ true
+unfolding every modifierNamed longName modifierEntries
+forms-named = refl
+
+is-named : (n : ℕ) (m : ModifierName) → isNamed n m ≡ true → m ≡ ModifierName.Named n
+is-named n (ModifierName.Bit k) e = let z : _≡_ {A = ℕ} 0 1 = cc in absurd (omega arith)
+is-named n (ModifierName.Named k) e = ap ModifierName.Named (eqb-true k n e)
+is-named n ModifierName.Unknown e = let z : _≡_ {A = ℕ} 0 1 = cc in absurd (omega arith)
+
+pub record FormNamed (k : ℕ) : Type 0 where
+  pub stands : modifierNamed (longName (k % 4)) ≡ ModifierName.Named (k % 4)
+  pub bit : formBit (leb 4 k) (k % 4) ≡ k
+  pub some : isSome (longName (k % 4)) ≡ true
+  pub letters : all letterOrDigit (longName (k % 4)) ≡ true
+  pub plain : not (isLoneName (Written.Modifier.name false (longName (k % 4)))) ≡ true
+
+pub form-named : (k : ℕ) → k < 8 → FormNamed k
+form-named k h =
+    let e : formNamed k ≡ true = every-at 8 formNamed forms-named k h in
+    let a : Bool = isNamed (k % 4) (modifierNamed (longName (k % 4))) in
+    let f : Bool = eqb (formBit (leb 4 k) (k % 4)) k in
+    let b : Bool = isSome (longName (k % 4)) in
+    let c : Bool = all letterOrDigit (longName (k % 4)) in
+    let d : Bool = not (isLoneName (Written.Modifier.name false (longName (k % 4)))) in
+    let e1 : (f && (b && (c && d))) ≡ true = both-right a (f && (b && (c && d))) e in
+    let e2 : (b && (c && d)) ≡ true = both-right f (b && (c && d)) e1 in
+    record {
+      stands = is-named (k % 4) (modifierNamed (longName (k % 4))) (both-left a (f && (b && (c && d))) e);
+      bit = eqb-true (formBit (leb 4 k) (k % 4)) k (both-left f (b && (c && d)) e1);
+      some = both-left b (c && d) e2;
+      letters = both-left c d (both-right b (c && d) e2);
+      plain = both-right c d (both-right b (c && d) e2);
+    }
+
+-- every form has its place in the order, and the order has forms only
+inForms : ℕ → Bool
+inForms k = any (λ j. eqb j k) formOrder
+
+all-forms : every 8 inForms ≡ true
+unfolding every inForms
+all-forms = refl
+
+pub form-ordered : (k : ℕ) → k < 8 → any (λ j. eqb j k) formOrder ≡ true
+unfolding inForms
+form-ordered k h = every-at 8 inForms all-forms k h
+
+pub forms-below : (keep : ℕ → Bool) → all (λ k. ltb k 8) (those keep formOrder) ≡ true
+forms-below keep = all-those (λ k. ltb k 8) keep formOrder refl
 
 -- ---- Event types
 

@@ -115,6 +115,11 @@ hexadecimal-reads v h =
       le-ltb keysymLimit v h,
     )
 
+-- it is a word of letters and digits
+pub hexadecimal-word : (v : ℕ) → (isSome (hexadecimal v) && all letterOrDigit (hexadecimal v)) ≡ true
+unfolding hexadecimal
+hexadecimal-word v = digits-letters 8 v
+
 -- ---- A count
 
 abbrev isCount : ℕ → Bool

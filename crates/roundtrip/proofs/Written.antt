@@ -1,14 +1,18 @@
 -- What the canonical text of an event derives to.
-use Prim.Native.Nat.{ℕ}
-use mathlib.Core.Bool.{false, cond, not}
-use mathlib.Core.List.{List, map}
+use Prim.Native.Nat.{ℕ, _%_}
+use mathlib.Core.Bool.{Bool, true, false, cond, not}
+use mathlib.Core.List.{List, [], _∷_, _++_, map}
 use mathlib.Core.Option.{Option, none, some}
-use lib.Dec.{ltb}
+use lib.Dec.{leb, ltb}
 use Rattle.model.specs.Lists.{those}
 use Rattle.model.specs.Modifiers.{bit}
-use Rattle.model.specs.Events.{Modifier, name, ModifierList, listed, Count, Written}
-use Rattle.model.specs.Canonical.{writingOrder, bitName, isWrittenBit, writesBang, typeText, detailText, decimal}
+use Rattle.model.specs.Named.{markedKeysym, isListed}
+use Rattle.model.specs.Events.{Modifier, name, keysym, ModifierList, listed, Count, Written}
+use Rattle.model.specs.Canonical.{writingOrder, bitName, isWrittenBit, longName, hexadecimal, writesBang, typeText, detailText, decimal}
+use Rattle.model.specs.declared.events.Keysyms.{Keysyms}
 use Rattle.model.specs.declared.events.KeptEvent.{KeptEvent}
+
+-- ---- Bits
 
 abbrev pub modifierOf : KeptEvent → ℕ → Modifier
 modifierOf e k = name (not (bit k (e .set))) (bitName k)
@@ -16,8 +20,43 @@ modifierOf e k = name (not (bit k (e .set))) (bitName k)
 abbrev pub bitsOf : KeptEvent → List ℕ
 bitsOf e = those (isWrittenBit e) writingOrder
 
+-- ---- Meta, Alt, Hyper, Super
+
+-- their forms in the order of writing, each by its bit
+abbrev pub formOrder : List ℕ
+formOrder = 0 ∷ 4 ∷ 1 ∷ 5 ∷ 2 ∷ 6 ∷ 3 ∷ 7 ∷ []
+
+abbrev pub formOf : ℕ → Modifier
+formOf k = name (leb 4 k) (longName (k % 4))
+
+abbrev pub formsOf : KeptEvent → List ℕ
+formsOf e = those (λ k. bit k (e .names)) formOrder
+
+-- ---- Keysyms
+
+abbrev pub keysymOf : ℕ → (tilde : Bool) → Modifier
+keysymOf s tilde = keysym tilde (hexadecimal (markedKeysym s))
+
+abbrev pub bothForms : (set clear : Bool) → ℕ → List Modifier
+bothForms set clear s = cond set (keysymOf s false ∷ []) [] ++ cond clear (keysymOf s true ∷ []) []
+
+abbrev pub keysymsOf : List ℕ → List Modifier
+keysymsOf [] = []
+keysymsOf (s ∷ ss) = bothForms (isListed false s) (isListed true s) s ++ keysymsOf ss
+
+abbrev pub slots : Keysyms → List ℕ
+slots k = k .first ∷ k .second ∷ k .third ∷ k .fourth ∷ []
+
+-- ---- The event
+
+abbrev pub namesOf : KeptEvent → List Modifier
+namesOf e = map formOf (formsOf e) ++ keysymsOf (slots (e .keysyms))
+
+abbrev pub modifiersOf : KeptEvent → List Modifier
+modifiersOf e = map (modifierOf e) (bitsOf e) ++ namesOf e
+
 unfoldable pub listOf : KeptEvent → ModifierList
-listOf e = listed (writesBang e) (e .colon) (map (modifierOf e) (bitsOf e))
+listOf e = listed (writesBang e) (e .colon) (modifiersOf e)
 
 unfoldable pub countOf : ℕ → Option Count
 countOf n = cond (ltb 1 n) (some (record { digits = decimal n; plus = false })) none

@@ -1,5 +1,5 @@
--- The layout of a table in lent bytes: 5,000 words of 16 bits, the lower byte first, in sections by field. Nothing but this
--- crate and those of the check knows where a word stands. A table of two lines (proofs/Example computes its sections):
+-- The layout of a table in lent bytes: 5,000 words of 16 bits, the lower byte first, in sections by field. Only this crate and
+-- those of the check know a place as a number. A table of two lines (proofs/Example computes its sections):
 --
 --     Ctrl<Key>a: f(x)
 --     <Btn1Down>: g()

@@ -13,7 +13,7 @@ use Rattle.words.proofs.RunLaws.{length-run, getD-run, run-append, total-add}
 use Rattle.model.specs.Lists.{all}
 use Rattle.model.specs.Tables.{Production}
 use Rattle.model.specs.declared.scan.Span.{Span}
-use Rattle.tables.specs.Layout.{callParametersAt, flat, allCalls, allParameters, encode, tableLength}
+use Rattle.tables.specs.Layout.{marksAt, callParametersAt, flat, allCalls, allParameters, encode, tableLength}
 use Rattle.tables.specs.Reading.{firstLengthIn, productionTotal, callTotal, parameterTotal, parameterEntry, nameEntry, callParameters, firstParameter, callEntry, eventEntry, productionEvents, productionCalls, firstEvent, firstCall, productionEntry, decode}
 use Rattle.tables.specs.Fitting.{eventInRange, fitting}
 use Rattle.tables.specs.Whole.{whole}
@@ -93,7 +93,7 @@ module _ (l : List ℕ) (w : whole l ≡ true) where
       omega (
         arith,
         checked .calls i h .name,
-        text-below (wordAt l (2056 - 128 + i)) (wordAt l 2) (wordAt l 3) (checked .header .first) (checked .header .second),
+        text-below (wordAt l (marksAt + i)) (wordAt l 2) (wordAt l 3) (checked .header .first) (checked .header .second),
       )
 
   pub parameters-short : (i : ℕ) → i < callTotal l → callParameters l i ≤ 8

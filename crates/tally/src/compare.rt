@@ -1,12 +1,13 @@
 // Equality of productions: their events as kept, before expansion.
 use model::events::Detail;
 use model::events::KeptEvent;
+use model::events::Keysyms;
 ghost use mathlib.Core.Path.{_≡_};
 ghost use mathlib.Core.Bool.{true};
 ghost use Prim.Native.Nat.{_+_, _≤_, _<_};
 ghost use lib.ListN.{length};
 ghost use Rattle.words.specs.Runs.{run};
-ghost use Rattle.model.specs.Merging.{sameDetail, sameEvent, sameEvents, isAmong};
+ghost use Rattle.model.specs.Merging.{sameDetail, sameKeysyms, sameEvent, sameEvents, isAmong};
 ghost use Rattle.tables.specs.Reading.{productionTotal, eventEntry, productionEntry};
 ghost use Rattle.tables.specs.Whole.{whole};
 ghost use Rattle.tally.specs.Kept.{firstOf};
@@ -27,16 +28,27 @@ fn same_detail(d: Detail, e: Detail) -> bool
     }
 }
 
+fn same_keysyms(a: Keysyms, b: Keysyms) -> bool
+    ensures { λ r. ⌜ r ≡ sameKeysyms a b ⌝ }
+{
+    (a.first == b.first) & (a.second == b.second) & (a.third == b.third) & (a.fourth == b.fourth)
+}
+
 fn same_event(e: KeptEvent, f: KeptEvent) -> bool
     ensures { λ r. ⌜ r ≡ sameEvent e f ⌝ }
 {
     let d = e.detail;
     let g = f.detail;
-    let test = (e.set == f.set)
+    let j = e.keysyms;
+    let k = f.keysyms;
+    let plain = (e.set == f.set)
         & (e.clear == f.clear)
         & (e.colon == f.colon)
         & (e.clause == f.clause);
-    (e.code == f.code) & test & same_detail(d, g) & (e.count == f.count)
+    let m = e.names;
+    let n = f.names;
+    let names = (e.bang == f.bang) & (m == n) & same_keysyms(j, k);
+    (e.code == f.code) & (plain & names) & same_detail(d, g) & (e.count == f.count)
 }
 
 // Whether n events of a table, from one on, equal n of another.

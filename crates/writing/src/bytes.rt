@@ -1,5 +1,6 @@
 // Texts put into lent bytes. Each function writes its text at a position as far as it lies within the bytes, and returns the
 // position past it: on few bytes it measures the text, on enough it writes it.
+ghost use mathlib.Core.Bool.{cond};
 ghost use mathlib.Core.List.{[], _∷_};
 ghost use Prim.Native.Nat.{_+_, _≤_, _<_};
 ghost use lib.ListN.{length, take, drop};
@@ -16,6 +17,17 @@ pub fn put_byte(out: &mut [u8], at: usize, b: u8) -> usize
         return at + 1;
     }
     at + 1
+}
+
+// A byte where it is asked for.
+pub fn put_if(out: &mut [u8], at: usize, is: bool, b: u8) -> usize
+    requires { ⌜ at ≤ 9000000000 ⌝ }
+    ensures { λ r. ⌜ (Put (now (out .entry)) (now (out .exit)) at r (cond is (b ∷ []) [])) × (r ≤ at + 1) ⌝ }
+{
+    if is {
+        return put_byte(out, at, b);
+    }
+    at
 }
 
 // What parts the n-th of several texts from those before it: nothing before the first.

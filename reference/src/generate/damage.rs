@@ -56,7 +56,20 @@ const ODD_MODIFIERS: &[&str] = &[
     "@x",
     "@",
     "@Meta_L",
+    "@None",
     "@a@b",
+    "@_",
+    "@5",
+    "@10",
+    "@08",
+    "@Return",
+    "@eacute",
+    "@0x1fffffff",
+    "@0x20000000",
+    "@99999999999999999999",
+    "@a ~@a @97 @b @c @d",
+    "@a @b @c @d @e",
+    "~@1 @2 ~@3 @4 @5 @6",
     "ShiftCtrl",
 ];
 const ODD_TYPES: &[&str] = &["Foo", "key", "GraphicsExposure", "NoExposure", "Key_", ""];
@@ -108,6 +121,10 @@ const KEY_SEQUENCES: &[&str] = &[
     "\"^a\\\"\"",
     "\"$a\"",
     "\"a$\"\"",
+    "\"$\\\"",
+    "\"$^a^$b\"",
+    "\"$\t\"",
+    "\"$",
     "\"\"",
     "\"a",
     "\"a\tb\"",
@@ -143,10 +160,10 @@ fn modifier_list(random: &mut Random, out: &mut Vec<u8>) {
         if random.percent(30) {
             out.push(b'~');
         }
-        let (built, not_built) = names::MODIFIERS.split_at(names::BUILT_MODIFIERS);
+        let (of_bits, relatives) = names::MODIFIERS.split_at(names::BIT_MODIFIERS);
         let name = match random.below(100) {
-            0..=79 => random.pick(built).0,
-            80..=91 => random.pick(not_built).0,
+            0..=59 => random.pick(of_bits).0,
+            60..=84 => random.pick(relatives).0,
             _ => random.pick(ODD_MODIFIERS),
         };
         out.extend(name.as_bytes());

@@ -1,13 +1,14 @@
-//! Keyboard maps and lists of records, biased to follow a table's productions.
+//! Keyboard maps, modifier maps and lists of records, biased to follow a table's productions.
 
 use super::productions::{few_bits, keysym};
-use crate::counts::{self, Element};
+use crate::counts::Element;
 use crate::keyboard::{lower, upper, FIRST_KEYCODE, MAP_LENGTH};
-use crate::modifiers::{ModifierTest, ALL, BUTTONS};
-use crate::names;
+use crate::modifiers::{Asked, ALL, BUTTONS};
+use crate::names::{self, Name};
 use crate::random::Random;
 use crate::records::{self, read_record, Event, BIG_ENDIAN, LITTLE_ENDIAN, RECORD_BYTES};
-use crate::selection::event_matches;
+use crate::resolving::{Maps, MOST_KEYCODES_IN_ROW, ROWS};
+use crate::selection::{event_matches, resolved, Resolved};
 use crate::table::Table;
 
 /// One call's record and byte order.
@@ -20,14 +21,28 @@ pub struct RecordCall {
 #[derive(Clone, Debug)]
 pub struct EventList {
     pub map: Vec<u32>,
+    pub modifier_map: Vec<u8>,
     pub multi_click_time: u32,
     pub calls: Vec<RecordCall>,
 }
 
+impl EventList {
+    pub fn maps(&self) -> Maps<'_> {
+        Maps {
+            keyboard: &self.map,
+            modifiers: &self.modifier_map,
+        }
+    }
+}
+
 pub fn list(random: &mut Random, table: &Table) -> EventList {
-    let map = map(random, table);
+    let (mut map, mut modifier_map) = maps(random, table);
     let multi_click_time = multi_click_time(random);
-    let sequences = counts::sequences(table);
+    let maps = Maps {
+        keyboard: &map,
+        modifiers: &modifier_map,
+    };
+    let sequences = resolved(table, maps);
     let clock = first_time(random);
     let length = *random.pick(&[3, 8, 8, 16, 16, 30, 30, 80]);
     let mut player = Player {
@@ -41,22 +56,36 @@ pub fn list(random: &mut Random, table: &Table) -> EventList {
         player.step(&sequences);
     }
     let calls = player.calls;
+    spoil_maps(random, &mut map, &mut modifier_map);
     EventList {
-        calls,
+        map,
+        modifier_map,
         multi_click_time,
-        map: cut(random, map),
+        calls,
     }
 }
 
-/// Seldom, a map of another length.
-fn cut(random: &mut Random, mut map: Vec<u32>) -> Vec<u32> {
+/// Seldom, a keyboard map of another length (1), or a modifier map of another length or with an
+/// entry 1..7 (18).
+fn spoil_maps(random: &mut Random, map: &mut Vec<u32>, modifier_map: &mut Vec<u8>) {
     if random.percent(1) {
-        map.resize(
-            *random.pick(&[0, MAP_LENGTH - 2, MAP_LENGTH - 1, MAP_LENGTH + 1]),
-            0,
-        );
+        let lengths = [0, MAP_LENGTH - 2, MAP_LENGTH - 1, MAP_LENGTH + 1];
+        map.resize(*random.pick(&lengths), 0);
     }
-    map
+    if random.percent(1) {
+        spoil_modifier_map(random, modifier_map);
+    }
+}
+
+/// A modifier map that is refused with 18.
+pub fn spoil_modifier_map(random: &mut Random, modifier_map: &mut Vec<u8>) {
+    if modifier_map.is_empty() || random.percent(50) {
+        let lengths = [0, 1, 7, 9, 12, 15, 17, 36, 63, 65, 72, 128, 256];
+        modifier_map.resize(*random.pick(&lengths), 0);
+    } else {
+        let at = random.below(modifier_map.len());
+        modifier_map[at] = random.range(1, usize::from(FIRST_KEYCODE) - 1) as u8;
+    }
 }
 
 fn multi_click_time(random: &mut Random) -> u32 {
@@ -75,19 +104,76 @@ fn first_time(random: &mut Random) -> u32 {
     }
 }
 
-/// A map that gives the table's keysyms in different ways, and some others.
-fn map(random: &mut Random, table: &Table) -> Vec<u32> {
+/// A keyboard map that gives the table's keysyms in different ways, and some others, and a
+/// modifier map that gives its names bits in different ways, or none.
+fn maps(random: &mut Random, table: &Table) -> (Vec<u32>, Vec<u8>) {
     let mut map = vec![0; MAP_LENGTH];
     for _ in 0..random.below(40) {
         let placed = keysym(random);
         place(random, &mut map, placed);
     }
+    let modifier_map = modifier_map(random, table, &mut map);
     for spec in table.events().filter(|spec| names::is_key(spec.code)) {
         if let Some(detail) = spec.detail {
             place(random, &mut map, detail);
         }
     }
-    map
+    (map, modifier_map)
+}
+
+/// Rows of 1 to 8 keycodes with those of the table's names among them, which the keyboard map
+/// gets, and any others.
+fn modifier_map(random: &mut Random, table: &Table, map: &mut [u32]) -> Vec<u8> {
+    let in_row = random.range(1, MOST_KEYCODES_IN_ROW);
+    let mut entries = vec![0; ROWS * in_row];
+    for _ in 0..random.below(5) {
+        let at = random.below(entries.len());
+        entries[at] = any_keycode(random);
+    }
+    let mut names: Vec<Name> = table
+        .events()
+        .flat_map(|spec| &spec.test.names)
+        .map(|listed| listed.name)
+        .collect();
+    names.sort();
+    names.dedup();
+    for name in names {
+        for row in rows(random) {
+            let at = in_row * row + random.below(in_row);
+            entries[at] = keycode_holding(random, map, name);
+        }
+    }
+    entries
+}
+
+/// The rows of a name: mostly one, at times Shift's or Lock's, at times several or none.
+fn rows(random: &mut Random) -> Vec<usize> {
+    let count = *random.pick(&[0, 1, 1, 1, 1, 1, 1, 2, 2, 3]);
+    let row = |_| match random.percent(25) {
+        true => random.below(2),
+        false => random.below(ROWS),
+    };
+    (0..count).map(row).collect()
+}
+
+fn any_keycode(random: &mut Random) -> u8 {
+    random.range(usize::from(FIRST_KEYCODE), 255) as u8
+}
+
+/// A keycode whose pair holds a keysym of the name, the left or the right one, as the first or the
+/// second of the pair.
+fn keycode_holding(random: &mut Random, map: &mut [u32], name: Name) -> u8 {
+    let held = *random.pick(&name.keysyms());
+    let other = keysym(random);
+    let pair = match random.below(4) {
+        0..=1 => [held, 0],
+        2 => [held, other],
+        _ => [other, held],
+    };
+    let keycode = any_keycode(random);
+    let at = 2 * usize::from(keycode - FIRST_KEYCODE);
+    map[at..at + 2].copy_from_slice(&pair);
+    keycode
 }
 
 /// Puts a keysym at some keycode: alone, with its other case, or beside another one.
@@ -114,7 +200,7 @@ struct Player<'r> {
 }
 
 impl Player<'_> {
-    fn step(&mut self, sequences: &[Vec<Element>]) {
+    fn step(&mut self, sequences: &[Vec<Resolved>]) {
         if sequences.is_empty() || self.random.percent(10) {
             self.noise();
         } else {
@@ -124,25 +210,25 @@ impl Player<'_> {
     }
 
     /// Follows a sequence to its end or nearly so, with an interruption or a flaw at times.
-    fn play(&mut self, sequence: &[Element]) {
+    fn play(&mut self, sequence: &[Resolved]) {
         let flawless = self.random.percent(60);
         let stop = match self.random.percent(80) {
             true => sequence.len(),
             false => self.random.below(sequence.len() + 1),
         };
         let mut times = Vec::new();
-        for element in &sequence[..stop] {
+        for resolved in &sequence[..stop] {
             if self.random.percent(4) {
                 self.refused();
             }
             if !flawless && self.random.percent(10) {
                 self.noise();
             }
-            let mut event = self.matching(element);
+            let mut event = self.matching(resolved);
             if !flawless && self.random.percent(10) {
                 self.spoil(&mut event);
             }
-            self.clock = match element.timed_from {
+            self.clock = match resolved.element.timed_from {
                 Some(from) => self.click_after(times[from]),
                 None => self.clock.wrapping_add(self.random.below(30) as u32),
             };
@@ -165,16 +251,16 @@ impl Player<'_> {
     }
 
     /// An event that matches the element, if one is found in a few tries.
-    fn matching(&mut self, element: &Element) -> Event {
+    fn matching(&mut self, resolved: &Resolved) -> Event {
         let mut event = Event::default();
         for _ in 0..12 {
             event = Event {
-                code: element.code,
-                detail: self.detail(element),
+                code: resolved.element.code,
+                detail: self.detail(&resolved.element),
                 time: 0,
-                state: self.state(&element.spec.test),
+                state: self.state(&resolved.asked),
             };
-            if event_matches(&event, element, self.map) {
+            if event_matches(&event, resolved, self.map) {
                 break;
             }
         }
@@ -191,7 +277,7 @@ impl Player<'_> {
 
     fn any_detail(&mut self, code: u8) -> u8 {
         match names::is_key(code) {
-            true => self.random.range(usize::from(FIRST_KEYCODE), 255) as u8,
+            true => any_keycode(self.random),
             false => self.random.below(6) as u8,
         }
     }
@@ -208,10 +294,10 @@ impl Player<'_> {
         found.map_or(FIRST_KEYCODE, |at| FIRST_KEYCODE + (at / 2) as u8)
     }
 
-    fn state(&mut self, test: &ModifierTest) -> u16 {
-        let mut state = (few_bits(self.random) | test.set) & !test.clear;
-        if test.clause && state & BUTTONS == 0 {
-            state |= BUTTONS & !test.clear & self.random.card16();
+    fn state(&mut self, asked: &Asked) -> u16 {
+        let mut state = (few_bits(self.random) | asked.set) & !asked.clear;
+        if asked.clause && state & BUTTONS == 0 {
+            state |= BUTTONS & !asked.clear & self.random.card16();
         }
         state
     }

@@ -4,8 +4,8 @@ use super::{productions, spelling, Case, Expected, Text};
 use crate::calls::{CallContents, ProductionContents};
 use crate::counts;
 use crate::limits;
-use crate::modifiers::ModifierTest;
-use crate::names;
+use crate::modifiers::{ListedName, ModifierTest};
+use crate::names::{self, Name};
 use crate::numbers::Number;
 use crate::random::Random;
 use crate::table::{Directive, EventSpec};
@@ -20,10 +20,11 @@ pub enum Limit {
     Calls,
     ParametersInCall,
     Parameters,
+    KeysymsInEvent,
 }
 
 impl Limit {
-    pub const ALL: [Limit; 8] = [
+    pub const ALL: [Limit; 9] = [
         Limit::TextBytes,
         Limit::Productions,
         Limit::EventsInProduction,
@@ -32,6 +33,7 @@ impl Limit {
         Limit::Calls,
         Limit::ParametersInCall,
         Limit::Parameters,
+        Limit::KeysymsInEvent,
     ];
 
     /// The limits that a merged table can pass though neither of the two tables does.
@@ -52,6 +54,7 @@ impl Limit {
             Limit::Calls => limits::CALLS,
             Limit::ParametersInCall => limits::PARAMETERS_IN_CALL,
             Limit::Parameters => limits::PARAMETERS,
+            Limit::KeysymsInEvent => limits::KEYSYMS_IN_EVENT,
         }
     }
 }
@@ -90,12 +93,52 @@ pub fn text(random: &mut Random) -> Text {
     if aim.limit == Limit::TextBytes {
         return long_text(random, aim);
     }
-    let productions = productions_of(random, aim);
+    let productions = match aim.limit {
+        Limit::KeysymsInEvent => keysyms_in_event(random, aim.amount()),
+        _ => productions_of(random, aim),
+    };
     Text {
         bytes: spelling::text(random, false, Directive::Replace, &productions),
         expected: aim.expected(Directive::Replace, productions),
         aim: Some(aim),
     }
+}
+
+/// Productions of which one has an event with this many different keysyms, some of them both set
+/// and clear, and Meta or a relative beside them.
+fn keysyms_in_event(random: &mut Random, amount: usize) -> Vec<ProductionContents> {
+    let mut keysyms = Vec::new();
+    while keysyms.len() < amount {
+        let keysym = productions::keysym(random);
+        if !keysyms.contains(&keysym) {
+            keysyms.push(keysym);
+        }
+    }
+    let mut names = Vec::new();
+    for keysym in keysyms {
+        let name = Name::Keysym(keysym);
+        let negated = random.percent(50);
+        names.push(ListedName { name, negated });
+        if random.percent(30) {
+            let negated = !negated;
+            names.push(ListedName { name, negated });
+        }
+    }
+    if random.percent(50) {
+        let name = *random.pick(&names::RELATIVES);
+        let negated = random.percent(50);
+        names.push(ListedName { name, negated });
+    }
+    names.sort();
+    let mut spec = key(productions::keysym(random));
+    spec.test.names = names;
+    let mut events = vec![key(u32::from(b'a')), spec];
+    random.shuffle(&mut events);
+    let mut all = productions::productions(random, 3, 3);
+    let at = random.below(all.len() + 1);
+    let calls = Vec::new();
+    all.insert(at, ProductionContents { events, calls });
+    all
 }
 
 /// Two accepted texts whose lines together are at or one past a limit. Some lines of the one
@@ -203,7 +246,7 @@ fn shapes(random: &mut Random, limit: Limit, amount: usize) -> Vec<Shape> {
         calls: calls.to_vec(),
     };
     match limit {
-        Limit::TextBytes => Vec::new(),
+        Limit::TextBytes | Limit::KeysymsInEvent => Vec::new(),
         Limit::Productions => vec![shape(1, &[0]); amount],
         Limit::EventsInProduction => vec![shape(amount, &[1])],
         Limit::Events => spread(

@@ -91,7 +91,8 @@ fn directive(random: &mut Random) -> Directive {
     *random.pick(&[Directive::Replace, Directive::Override, Directive::Augment])
 }
 
-/// Two texts that share lines, each in its own spelling and with its own calls.
+/// Two texts that share lines, each in its own spelling and with its own calls, or nearly so: a
+/// name or a `!` differs.
 fn merge(random: &mut Random) -> Case {
     let old_productions = productions::productions(random, 6, 3);
     let mut new_productions = productions::productions(random, 4, 3);
@@ -99,7 +100,11 @@ fn merge(random: &mut Random) -> Case {
         if random.percent(40) {
             let calls = productions::calls(random);
             let at = random.below(new_productions.len() + 1);
-            let events = production.events.clone();
+            let mut events = production.events.clone();
+            if random.percent(30) {
+                let at = random.below(events.len());
+                productions::vary_names(random, &mut events[at]);
+            }
             new_productions.insert(at, ProductionContents { events, calls });
         }
     }

@@ -4,8 +4,8 @@ use crate::calls::{CallContents, ProductionContents};
 use crate::counts;
 use crate::details::{self, Taken, KEYS, LARGEST_KEYSYM, LARGEST_NUMBER};
 use crate::limits;
-use crate::modifiers::{self, ModifierTest, ALL, BUTTONS};
-use crate::names;
+use crate::modifiers::{self, ListedName, ModifierTest, Named, ALL, BUTTONS};
+use crate::names::{self, Name, RELATIVES};
 use crate::random::Random;
 use crate::table::EventSpec;
 use crate::text::is_text_byte;
@@ -15,10 +15,15 @@ const MOST_PARAMETERS: usize = 24;
 
 /// Unrelated productions of all forms.
 pub fn productions(random: &mut Random, most: usize, longest: usize) -> Vec<ProductionContents> {
+    let named = name_chance(random);
     let mut all = Vec::new();
-    for _ in 0..random.below(most + 1) {
+    let count = match random.percent(5) {
+        true => 0,
+        false => random.range(1, most),
+    };
+    for _ in 0..count {
         let mut events = (0..random.range(1, longest))
-            .map(|_| event(random))
+            .map(|_| event(random, named))
             .collect();
         cut_to_limit(&mut events);
         let calls = calls(random);
@@ -29,7 +34,10 @@ pub fn productions(random: &mut Random, most: usize, longest: usize) -> Vec<Prod
 
 /// Productions over a few kinds of events, with shared beginnings and ends.
 pub fn related_productions(random: &mut Random) -> Vec<ProductionContents> {
-    let kinds: Vec<EventSpec> = (0..random.range(1, 4)).map(|_| event(random)).collect();
+    let named = name_chance(random);
+    let kinds: Vec<EventSpec> = (0..random.range(1, 4))
+        .map(|_| event(random, named))
+        .collect();
     let longest = *random.pick(&[1, 2, 3, 3, 4, 6, 24]);
     let mut all: Vec<ProductionContents> = Vec::new();
     for _ in 0..random.range(1, 8) {
@@ -38,7 +46,7 @@ pub fn related_productions(random: &mut Random) -> Vec<ProductionContents> {
             false => Vec::new(),
         };
         for _ in 0..random.range(1, longest) {
-            let kind = *random.pick(&kinds);
+            let kind = random.pick(&kinds).clone();
             events.push(varied(random, kind));
         }
         cut_to_limit(&mut events);
@@ -57,9 +65,12 @@ fn part_of(random: &mut Random, all: &[ProductionContents]) -> Vec<EventSpec> {
     }
 }
 
-/// The kind with another count, a press for a release, or as it is.
+/// The kind with another count, a press for a release, a name in another form, or as it is.
 fn varied(random: &mut Random, kind: EventSpec) -> EventSpec {
     let mut spec = kind;
+    if random.percent(10) {
+        vary_names(random, &mut spec);
+    }
     if names::is_key_or_button(spec.code) {
         match random.below(10) {
             0..=2 => spec.count = random.range(1, 3) as u8,
@@ -71,6 +82,38 @@ fn varied(random: &mut Random, kind: EventSpec) -> EventSpec {
     spec
 }
 
+/// Changes the names of an event or its `!`, a little, if it has names.
+pub fn vary_names(random: &mut Random, spec: &mut EventSpec) {
+    let test = &mut spec.test;
+    if !test.has_names() {
+        return;
+    }
+    let at = random.below(test.names.len());
+    match random.below(6) {
+        0..=1 if !test.clause => test.exclamation = !test.exclamation,
+        2 => test.names[at].negated = !test.names[at].negated,
+        3 => test.names[at].name = name(random),
+        // What the name means on many keyboards, but "names as names".
+        4 => test.names[at].name = Name::Keysym(test.names[at].name.keysyms()[0]),
+        _ => test.names.push(listed_name(random)),
+    }
+    order_names(&mut test.names);
+}
+
+/// The writer's order, each form once, and four different keysyms at most.
+fn order_names(names: &mut Vec<ListedName>) {
+    names.sort();
+    names.dedup();
+    let mut keysyms = Vec::new();
+    names.retain(|listed| {
+        let is_keysym = matches!(listed.name, Name::Keysym(_));
+        if is_keysym && !keysyms.contains(&listed.name) {
+            keysyms.push(listed.name);
+        }
+        !is_keysym || keysyms.len() <= limits::KEYSYMS_IN_EVENT
+    });
+}
+
 fn cut_to_limit(events: &mut Vec<EventSpec>) {
     let length =
         |events: &[EventSpec]| -> usize { events.iter().map(counts::expanded_length).sum() };
@@ -79,7 +122,12 @@ fn cut_to_limit(events: &mut Vec<EventSpec>) {
     }
 }
 
-pub fn event(random: &mut Random) -> EventSpec {
+/// How often, in percent, the events of a table that can have names do.
+fn name_chance(random: &mut Random) -> usize {
+    *random.pick(&[0, 40, 60, 60, 80, 80, 100, 100])
+}
+
+fn event(random: &mut Random, named: usize) -> EventSpec {
     let code = code(random);
     let counted = names::is_key_or_button(code) && random.percent(25);
     EventSpec {
@@ -88,7 +136,10 @@ pub fn event(random: &mut Random) -> EventSpec {
             true => random.range(2, usize::from(counts::LARGEST_COUNT).min(4)) as u8,
             false => 1,
         },
-        test: test(random, code),
+        test: match random.percent(named) {
+            true => named_test(random, code),
+            false => test(random, code),
+        },
         detail: detail(random, code),
     }
 }
@@ -119,17 +170,73 @@ fn test(random: &mut Random, code: u8) -> ModifierTest {
         7..=8 => (set, testable & !set),
         _ => (set, random.card16() & testable & !set),
     };
-    let mut test = ModifierTest {
+    let test = ModifierTest {
         set,
         clear,
         colon,
-        clause: false,
+        ..ModifierTest::default()
     };
-    if code == names::MOTION_NOTIFY && set & BUTTONS == 0 && random.percent(60) {
+    with_clause(random, code, test)
+}
+
+/// A test of an event with names that some state meets if they are left out.
+fn named_test(random: &mut Random, code: u8) -> ModifierTest {
+    let mut test = test(random, code);
+    if !names::has_state(code) {
+        return test;
+    }
+    // Bits that are all asked for stand seldom beside a name.
+    if test.is_exact() && random.percent(80) {
+        test.clear &= few_bits(random);
+    }
+    test.exclamation = !test.clause && random.percent(35);
+    let most = *random.pick(&[1, 1, 1, 2, 2, 3, 6]);
+    test.names = (0..random.range(1, most))
+        .map(|_| listed_name(random))
+        .collect();
+    order_names(&mut test.names);
+    test
+}
+
+fn with_clause(random: &mut Random, code: u8, mut test: ModifierTest) -> ModifierTest {
+    if code == names::MOTION_NOTIFY && test.set & BUTTONS == 0 && random.percent(60) {
         test.clause = true;
-        test.clause = test.can_hold();
+        test.clause = test.asked(Named::default()).can_hold();
     }
     test
+}
+
+fn listed_name(random: &mut Random) -> ListedName {
+    ListedName {
+        name: name(random),
+        negated: random.percent(30),
+    }
+}
+
+/// Keysyms after `@`: of keys that are modifiers on many keyboards, some others, and the ends of
+/// the range.
+const NAMED_KEYSYMS: &[u32] = &[
+    0xFFE7,
+    0xFFE8,
+    0xFFE9,
+    0xFFE1,
+    0xFFE5,
+    0xFF7F,
+    0x61,
+    0x41,
+    0x35,
+    LARGEST_KEYSYM,
+];
+
+pub fn name(random: &mut Random) -> Name {
+    match random.below(10) {
+        0..=2 => Name::Meta,
+        3..=5 => *random.pick(&RELATIVES),
+        6..=8 => Name::Keysym(*random.pick(NAMED_KEYSYMS)),
+        // Where few keys of a keyboard have both keysyms, 0 is in many rows.
+        _ if random.percent(10) => Name::Keysym(0),
+        _ => Name::Keysym(keysym(random)),
+    }
 }
 
 /// No bit to three bits.
@@ -153,9 +260,11 @@ fn detail(random: &mut Random, code: u8) -> Option<u32> {
 }
 
 pub fn keysym(random: &mut Random) -> u32 {
-    match random.below(20) {
+    match random.below(21) {
         0..=5 => random.range(0x61, 0x64) as u32,
         6..=8 => random.range(0x41, 0x44) as u32,
+        // Those of Meta and its relatives.
+        20 => random.range(0xFFE7, 0xFFEE) as u32,
         9..=10 => random.range(0xC0, 0xFF) as u32,
         11..=14 => random.range(0x20, 0x7E) as u32,
         15..=17 => random.pick(KEYS).1,
@@ -178,14 +287,14 @@ pub fn calls(random: &mut Random) -> Vec<CallContents> {
 fn call(random: &mut Random) -> CallContents {
     let most = *random.pick(&[0, 1, 2, 3, limits::PARAMETERS_IN_CALL]);
     CallContents {
-        name: name(random),
+        name: call_name(random),
         parameters: (0..random.below(most + 1))
             .map(|_| parameter(random))
             .collect(),
     }
 }
 
-fn name(random: &mut Random) -> Vec<u8> {
+fn call_name(random: &mut Random) -> Vec<u8> {
     let signs = b"abzAZ019_-";
     (0..random.range(1, 6))
         .map(|_| *random.pick(signs))

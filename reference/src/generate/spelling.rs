@@ -2,11 +2,11 @@
 
 use crate::calls::{CallContents, ProductionContents};
 use crate::details::{self, Taken, KEYS};
-use crate::modifiers::{ModifierTest, BUTTONS, CTRL};
-use crate::names::{self, Adds, EventType, Modifier};
+use crate::modifiers::{ListedName, ModifierTest, BUTTONS, CTRL};
+use crate::names::{self, Adds, EventType, Modifier, Name};
 use crate::random::Random;
 use crate::table::{Directive, EventSpec};
-use crate::text::{is_detail_byte, is_text_byte, is_unquoted_byte};
+use crate::text::{is_detail_byte, is_keysym_name_byte, is_text_byte, is_unquoted_byte};
 
 /// A text that compiles to these productions. A roomy one has blanks around many tokens.
 pub fn text(
@@ -122,6 +122,8 @@ impl Speller<'_> {
         let byte = key_sequence_byte(spec).expect("only such events are spelled so");
         if spec.test.set == CTRL {
             self.out.push(b'^');
+        } else if spec.test.has_names() {
+            self.out.push(b'$');
         } else if matches!(byte, b'"' | b'^' | b'$' | b'\\') || self.random.percent(10) {
             self.out.push(b'\\');
         }
@@ -164,13 +166,22 @@ impl Speller<'_> {
             Adds::Bit(bit) => bit,
             _ => 0,
         };
-        if test.cared_for() == added && !test.colon && self.random.percent(20) {
+        let is_added = |listed: &ListedName| adds == Adds::Name(listed.name) && !listed.negated;
+        let names_are_added = test.names.iter().all(is_added);
+        let exact = match test.has_names() {
+            true => test.exclamation,
+            false => test.is_exact() && self.random.percent(70),
+        };
+        let alone = names_are_added && !test.colon;
+        if alone && !exact && test.set | test.clear == added && self.random.percent(20) {
             self.token("Any");
             return;
         }
-        let exact = test.is_exact() && self.random.percent(70);
-        // An added modifier beside `!` or `None` must be listed.
-        if exact && test.set == 0 && !test.colon && self.random.percent(50) {
+        // An added bit beside `!` or `None` must be listed; an added name is. Beside a name, the
+        // bits asked clear are listed ones.
+        let implied = if test.has_names() { 0 } else { test.clear };
+        let none = exact && test.set == 0 && test.clear == implied;
+        if alone && none && self.random.percent(50) {
             self.token("None");
             return;
         }
@@ -181,10 +192,12 @@ impl Speller<'_> {
             self.token(":");
         }
         let unneeded_set = if exact { 0 } else { added };
-        let unneeded_clear = if exact { test.clear } else { 0 };
+        let unneeded_clear = if exact { implied } else { 0 };
         let set = self.listed(test.set, unneeded_set);
         let clear = self.listed(test.clear, unneeded_clear);
-        self.modifiers(set, clear);
+        let mut names = test.names.clone();
+        names.retain(|listed| !is_added(listed) || self.random.percent(30));
+        self.modifiers(set, clear, &names);
     }
 
     /// The bits to list: the needed ones, and some of the others.
@@ -192,36 +205,53 @@ impl Speller<'_> {
         bits & !(unneeded & self.random.card16())
     }
 
-    fn modifiers(&mut self, set: u16, clear: u16) {
-        let mut listed = Vec::new();
+    /// The modifiers in any order, some of them twice.
+    fn modifiers(&mut self, set: u16, clear: u16, names: &[ListedName]) {
+        let mut once = Vec::new();
         for bit in (0..13).map(|at| 1 << at) {
-            let times = if self.random.percent(5) { 2 } else { 1 };
             if set & bit != 0 {
-                listed.extend([(false, bit)].repeat(times));
+                once.push((false, Modifier::Bit(bit)));
             }
             if clear & bit != 0 {
-                listed.extend([(true, bit)].repeat(times));
+                once.push((true, Modifier::Bit(bit)));
             }
         }
+        let named = |listed: &ListedName| (listed.negated, Modifier::Name(listed.name));
+        once.extend(names.iter().map(named));
+        let mut listed = Vec::new();
+        for modifier in once {
+            let times = if self.random.percent(5) { 2 } else { 1 };
+            listed.extend([modifier].repeat(times));
+        }
         self.random.shuffle(&mut listed);
-        for (at, &(negated, bit)) in listed.iter().enumerate() {
+        for (at, &(negated, modifier)) in listed.iter().enumerate() {
             if negated {
                 self.token("~");
             } else if at > 0 {
                 self.blank();
             }
-            let name = self.modifier_name(bit);
+            let name = self.modifier_name(modifier);
             self.token(name);
         }
     }
 
-    fn modifier_name(&mut self, bit: u16) -> &'static str {
+    fn modifier_name(&mut self, modifier: Modifier) -> Vec<u8> {
+        if let Modifier::Name(Name::Keysym(keysym)) = modifier {
+            return [b"@".as_slice(), &self.keysym_run(keysym)].concat();
+        }
         let names: Vec<&str> = names::MODIFIERS
             .iter()
-            .filter(|&&(_, modifier)| modifier == Modifier::Bit(bit))
+            .filter(|&&(_, named)| named == modifier)
             .map(|&(name, _)| name)
             .collect();
-        self.random.pick::<&str>(&names)
+        self.random.pick(&names).as_bytes().to_vec()
+    }
+
+    /// A spelling of a keysym that can stand after `@`.
+    fn keysym_run(&mut self, keysym: u32) -> Vec<u8> {
+        let mut spellings = self.keysym_spellings(keysym, true);
+        spellings.retain(|run| run.iter().all(|&byte| is_keysym_name_byte(byte)));
+        self.random.pick(&spellings).clone()
     }
 
     fn detail(&mut self, code: u8, value: u32, counted: bool) -> Vec<u8> {
@@ -284,13 +314,16 @@ impl Speller<'_> {
     }
 }
 
-/// Whether the name, with a suitable list, gives the event.
+/// Whether the type's name, with a suitable list, gives the event.
 fn can_name(event_type: &EventType, spec: &EventSpec) -> bool {
     let adds_what_is_asked = match event_type.adds {
         Adds::Nothing => !spec.test.clause,
         Adds::Bit(bit) => spec.test.set & bit != 0,
         Adds::AnyButton => spec.test.clause || spec.test.set & BUTTONS != 0,
-        Adds::NotBuilt => false,
+        Adds::Name(name) => spec.test.names.contains(&ListedName {
+            name,
+            negated: false,
+        }),
     };
     let fixes_the_detail = event_type
         .detail
@@ -305,14 +338,22 @@ fn key_sequence_length(events: &[EventSpec]) -> usize {
 }
 
 fn key_sequence_byte(spec: &EventSpec) -> Option<u8> {
-    let plain = ModifierTest {
-        set: spec.test.set & CTRL,
+    let bits = |set| ModifierTest {
+        set,
+        ..ModifierTest::default()
+    };
+    let meta = ListedName {
+        name: Name::Meta,
+        negated: false,
+    };
+    let with_meta = ModifierTest {
+        names: vec![meta],
         ..ModifierTest::default()
     };
     let byte = u8::try_from(spec.detail?).ok()?;
     let in_sequence = spec.code == names::KEY_PRESS
         && spec.count == 1
-        && spec.test == plain
+        && [bits(0), bits(CTRL), with_meta].contains(&spec.test)
         && is_text_byte(byte)
         && !matches!(byte, b'\t' | b'\n');
     in_sequence.then_some(byte)

@@ -4,9 +4,12 @@
 
 use glykorant_reference::calls::{contents, CallContents};
 use glykorant_reference::keyboard::{FIRST_KEYCODE, MAP_LENGTH};
-use glykorant_reference::{compile, merge, write, EventSpec, Matcher, Number, Table};
+use glykorant_reference::resolving::ROWS;
+use glykorant_reference::{compile, merge, write, EventSpec, Maps, Matcher, Number, Table};
 
-pub use glykorant_reference::modifiers::{ALL, BUTTON1, BUTTON2, CTRL, LOCK, SHIFT};
+pub use glykorant_reference::modifiers::{
+    ALL, BUTTON1, BUTTON2, CTRL, LOCK, MOD1, MOD2, MOD3, MOD4, MOD5, SHIFT,
+};
 pub use glykorant_reference::names::{
     BUTTON_PRESS, BUTTON_RELEASE, KEY_PRESS, KEY_RELEASE, MOTION_NOTIFY,
 };
@@ -47,7 +50,7 @@ pub fn events(text: impl AsRef<[u8]>) -> Vec<EventSpec> {
 
 /// The first event of the first production.
 pub fn event(text: impl AsRef<[u8]>) -> EventSpec {
-    events(text)[0]
+    events(text).remove(0)
 }
 
 pub fn detail(text: impl AsRef<[u8]>) -> Option<u32> {
@@ -113,19 +116,27 @@ pub fn key_map(first: u32, second: u32) -> Vec<u32> {
     map
 }
 
+/// Maps without modifiers.
+pub fn bare(map: &[u32]) -> Maps<'_> {
+    Maps {
+        keyboard: map,
+        modifiers: &[0; ROWS],
+    }
+}
+
 /// What each record selects, under a multi-click time of 100; none is refused.
 pub fn selected(text: &str, records: &[Vec<u8>]) -> Vec<Option<usize>> {
-    selected_with(text, &key_map(0x61, 0x41), 100, records)
+    selected_with(text, bare(&key_map(0x61, 0x41)), 100, records)
 }
 
 pub fn selected_with(
     text: &str,
-    map: &[u32],
+    maps: Maps,
     multi_click_time: u32,
     records: &[Vec<u8>],
 ) -> Vec<Option<usize>> {
     let table = table(text);
-    let mut matcher = Matcher::new(&table, map, multi_click_time);
+    let mut matcher = Matcher::new(&table, maps, multi_click_time);
     let select = |record: &Vec<u8>| {
         let (number, selected) = matcher.call(record, b'B');
         assert_eq!(number, Number::Accepted);
@@ -136,5 +147,6 @@ pub fn selected_with(
 
 /// Whether a text of one key event matches a key in a state.
 pub fn key_matches(text: &str, pair: (u32, u32), state: u16) -> bool {
-    selected_with(text, &key_map(pair.0, pair.1), 100, &[key(state)]) == [Some(0)]
+    let map = key_map(pair.0, pair.1);
+    selected_with(text, bare(&map), 100, &[key(state)]) == [Some(0)]
 }

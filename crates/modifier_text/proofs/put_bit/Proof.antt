@@ -2,14 +2,12 @@
 use borrow.Author.Needs.{needs}
 use native.Mathlib.Omega.{arith}
 use mathlib.Core.Path.{_≡_, sym, ap, _∙_}
-use mathlib.Core.List.{List, [], _∷_, _++_}
 use mathlib.Core.Bool.{true, false}
-use Prim.Native.Nat.{ℕ}
 use Rattle.model.specs.Modifiers.{bit}
 use Rattle.model.specs.Canonical.{bitName}
 use Rattle.names.specs.Table.{nameRow}
 use Rattle.writing.proofs.Laws.{put-then, put-as}
-use Rattle.modifier_text.proofs.Named.{bit-name}
+use Rattle.modifier_text.proofs.Named.{bit-name, short-name}
 use Rattle.modifier_text.proofs.put_bit.Statement.{statement}
 use Rattle.modifier_text.proofs.put_bit.Tie as tie
 
@@ -30,7 +28,8 @@ returns c =
     let a = c .before .before .before .before .before .before .before .before .args in
     let t : bit (a .k) (a .e .set) ≡ true = sym (c .before .before .before .before .before .before .bit .ensures) ∙ c .before .before .before .before .before .if1 .taken in
     let n : nameRow (c .before .before .before .modifier-place .result) ≡ bitName (a .k) = ap nameRow (c .before .before .before .modifier-place .ensures .0) ∙ sym (bit-name (a .k) (c .before .before .before .before .before .before .before .before .pre .1)) in
-    (rw t (put-as n (c .before .before .put-name .ensures .0)), omega (arith, c .before .before .put-name .ensures .1))
+    let p = put-as n (c .before .before .put-name .ensures .0) in
+    (rw t p, omega (arith, p .next, short-name (a .k) (c .before .before .before .before .before .before .before .before .pre .1)))
 
 put-byte-requires : tie.Need-put-byte-requires
 put-byte-requires c κs = search needs
@@ -49,10 +48,9 @@ returns-2 c =
     let a = c .before .before .before .before .before .before .before .before .before .before .before .before .args in
     let t : bit (a .k) (a .e .set) ≡ false = sym (c .before .before .before .before .before .before .before .before .before .before .bit .ensures) ∙ c .before .before .before .before .before .before .before .before .before .if1 .left in
     let n : nameRow (c .before .before .before .modifier-place2 .result) ≡ bitName (a .k) = ap nameRow (c .before .before .before .modifier-place2 .ensures .0) ∙ sym (bit-name (a .k) (c .before .before .before .before .before .before .before .before .before .before .before .before .pre .1)) in
-    let m : (126 ∷ []) ++ nameRow (c .before .before .before .modifier-place2 .result) ≡ (126 ∷ []) ++ bitName (a .k) = ap (λ (l : List ℕ). (126 ∷ []) ++ l) n in (
-      rw t (put-as m (put-then (c .before .before .before .before .before .before .before .put-byte .ensures) (c .before .before .put-name2 .ensures .0))),
-      omega (arith, c .before .before .before .before .before .before .before .put-byte .ensures .next, c .before .before .put-name2 .ensures .1),
-    )
+    let b = c .before .before .before .before .before .before .before .put-byte .ensures in
+    let p = put-as n (c .before .before .put-name2 .ensures .0) in
+    (rw t (put-then b p), omega (arith, b .next, p .next, short-name (a .k) (c .before .before .before .before .before .before .before .before .before .before .before .before .pre .1)))
 
 pub put-bit-spec : {M : Type 1} → statement M
 put-bit-spec =

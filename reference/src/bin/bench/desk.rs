@@ -1,11 +1,12 @@
-//! A desk's table of 64 productions, and streams of events for it.
+//! A desk's tables of 64 productions, and streams of events for them.
 
 use glykorant_reference::keyboard::{FIRST_KEYCODE, MAP_LENGTH};
-use glykorant_reference::modifiers::{BUTTON1, CTRL, LOCK, MOD1, SHIFT};
+use glykorant_reference::modifiers::{BUTTON1, CTRL, LOCK, MOD1, MOD4, SHIFT};
 use glykorant_reference::names::{
     BUTTON_PRESS, BUTTON_RELEASE, ENTER_NOTIFY, KEY_PRESS, KEY_RELEASE, LEAVE_NOTIFY, MOTION_NOTIFY,
 };
 use glykorant_reference::random::Random;
+use glykorant_reference::resolving::ROWS;
 
 /// Less than this many milliseconds lie between the presses of a double click.
 pub const MULTI_CLICK_TIME: u32 = 200;
@@ -47,14 +48,35 @@ Mod1<Key>space: menu(window)
 :<Key>-: zoom(out)
 ";
 
-/// The table's text: 10 productions on the pointer, 54 on keys.
-pub fn text() -> String {
+/// The modifier that a table's letters are bound with.
+#[derive(Clone, Copy, PartialEq, Eq)]
+pub enum Letters {
+    Ctrl,
+    Meta,
+}
+
+impl Letters {
+    /// Meta is the keyboard's fourth modifier.
+    fn bit(self) -> u16 {
+        match self {
+            Letters::Ctrl => CTRL,
+            Letters::Meta => MOD4,
+        }
+    }
+}
+
+/// The table's text: 10 productions on the pointer, 54 on keys, 26 of them letters.
+pub fn text(letters: Letters) -> String {
+    let modifier = match letters {
+        Letters::Ctrl => "Ctrl",
+        Letters::Meta => "Meta",
+    };
     let mut text = format!("#override\n{POINTER}{NAMED_KEYS}");
     for number in 1..=12 {
         text += &format!("<Key>F{number}: function(number, \"{number}\")\n");
     }
     for letter in 'a'..='z' {
-        text += &format!("Ctrl<Key>{letter}: command({letter}, bucket, selection)\n");
+        text += &format!("{modifier}<Key>{letter}: command({letter}, bucket, selection)\n");
     }
     text
 }
@@ -91,6 +113,33 @@ const FUNCTIONS_FROM: u8 = 60;
 const OTHERS_FROM: u8 = 80;
 /// Ten digits, which no production names.
 const DIGITS_FROM: u8 = 100;
+const MODIFIERS_FROM: u8 = 120;
+
+/// The keys that are modifiers: each one's keysyms and row.
+const MODIFIER_KEYS: [(u32, u32, usize); 10] = [
+    (0xFFE1, 0, 0),
+    (0xFFE2, 0, 0),
+    (0xFFE5, 0, 1),
+    (0xFFE3, 0, 2),
+    (0xFFE4, 0, 2),
+    (0xFFE9, 0, 3),
+    (0xFFEA, 0, 3),
+    (0xFF7F, 0, 4),
+    (0xFFEB, 0xFFE7, 6),
+    (0xFFEC, 0xFFE8, 6),
+];
+
+/// Keycodes of a row.
+const IN_ROW: usize = 4;
+
+pub fn modifier_map() -> Vec<u8> {
+    let mut rows = [[0; IN_ROW]; ROWS];
+    for (at, (_, _, row)) in MODIFIER_KEYS.into_iter().enumerate() {
+        let unused = rows[row].iter().position(|&keycode| keycode == 0);
+        rows[row][unused.expect("a row has room")] = MODIFIERS_FROM + at as u8;
+    }
+    rows.concat()
+}
 
 pub fn map() -> Vec<u32> {
     let mut map = vec![0; MAP_LENGTH];
@@ -110,7 +159,17 @@ pub fn map() -> Vec<u32> {
     for at in 0..10 {
         put(DIGITS_FROM + at, (u32::from(b'0' + at), 0x100));
     }
+    for (at, &(first, second, _)) in MODIFIER_KEYS.iter().enumerate() {
+        put(MODIFIERS_FROM + at as u8, (first, second));
+    }
     map
+}
+
+fn letter(random: &mut Random, letters: Letters) -> Key {
+    Key {
+        keycode: LETTERS_FROM + random.below(26) as u8,
+        state: letters.bit(),
+    }
 }
 
 /// Some key, with modifiers, that a production names.
@@ -118,7 +177,7 @@ fn named_key(random: &mut Random) -> Key {
     match random.below(54) {
         at @ 0..=25 => Key {
             keycode: LETTERS_FROM + at as u8,
-            state: CTRL,
+            state: Letters::Ctrl.bit(),
         },
         at @ 26..=37 => Key {
             keycode: FUNCTIONS_FROM + (at - 26) as u8,
@@ -254,31 +313,55 @@ impl Stream {
     }
 }
 
-/// The streams, each with its name.
-pub fn streams(length: usize) -> [(&'static str, Vec<Record>); 5] {
-    [
-        (
+/// A stream with its name, and the table that it is for.
+pub struct Measured {
+    pub name: &'static str,
+    pub letters: Letters,
+    pub records: Vec<Record>,
+}
+
+pub fn streams(length: usize) -> Vec<Measured> {
+    let measured = |name, letters, records| Measured {
+        name,
+        letters,
+        records,
+    };
+    vec![
+        measured(
             "button pairs, double clicks",
+            Letters::Ctrl,
             Stream::of(1, length, Stream::clicks),
         ),
-        (
+        measured(
             "keys that hit",
+            Letters::Ctrl,
             Stream::of(2, length, |stream| {
                 let key = stream.named();
                 stream.push(KEY_PRESS, key.keycode, key.state);
             }),
         ),
-        (
+        measured(
             "keys that miss",
+            Letters::Ctrl,
             Stream::of(3, length, |stream| {
                 let key = stream.unnamed();
                 stream.push(KEY_PRESS, key.keycode, key.state);
             }),
         ),
-        (
+        measured(
             "motion that none names",
+            Letters::Ctrl,
             Stream::of(4, length, Stream::motion),
         ),
-        ("mixed", Stream::of(5, length, Stream::mixed)),
+        measured("mixed", Letters::Ctrl, Stream::of(5, length, Stream::mixed)),
+        measured(
+            "keys bound with Meta",
+            Letters::Meta,
+            Stream::of(6, length, |stream| {
+                stream.wait(40, 300);
+                let key = letter(&mut stream.random, Letters::Meta);
+                stream.push(KEY_PRESS, key.keycode, key.state);
+            }),
+        ),
     ]
 }

@@ -1,9 +1,9 @@
 //! The proved library and plain Rust side by side, with their results compared.
 
 use crate::capi;
-use crate::desk::{self, Record, MULTI_CLICK_TIME, ORDER};
+use crate::desk::{self, Letters, Measured, Record, MULTI_CLICK_TIME, ORDER};
 use glykorant_reference::layout::{self, Context, STATE_BYTES, TABLE_BYTES};
-use glykorant_reference::{compile, BoundedMatcher, Matcher, Number, Table};
+use glykorant_reference::{compile, BoundedMatcher, Maps, Matcher, Number, Table};
 use std::hint::black_box;
 use std::process::ExitCode;
 use std::time::{Duration, Instant};
@@ -15,13 +15,23 @@ const LENGTH: usize = 400;
 /// only adds to it.
 const REPEATED: Duration = Duration::from_millis(1500);
 
-/// What is measured: the table in both forms, and the keyboard in both forms.
+/// What is measured: the table in both forms, and the maps in both forms.
 struct Desk {
     text: Vec<u8>,
     table: Table,
     bytes: Vec<u8>,
     map: Vec<u32>,
-    map_bytes: Vec<u8>,
+    modifier_map: Vec<u8>,
+    maps_bytes: Vec<u8>,
+}
+
+impl Desk {
+    fn maps(&self) -> Maps<'_> {
+        Maps {
+            keyboard: &self.map,
+            modifiers: &self.modifier_map,
+        }
+    }
 }
 
 type Outcome = (u8, Option<usize>);
@@ -37,7 +47,8 @@ pub fn main() -> ExitCode {
 }
 
 fn run() -> Result<(), String> {
-    let desk = desk()?;
+    let desk = make(Letters::Ctrl)?;
+    let with_meta = make(Letters::Meta)?;
     println!(
         "{} productions, {} bytes of text, {LENGTH} events a stream; the least of many runs",
         desk.table.productions.len(),
@@ -52,12 +63,21 @@ fn run() -> Result<(), String> {
         "{:<30}{:>8}{:>11}{:>7}{:>7}{:>7}{:>11}{:>7}",
         "ns per event", "proved", "reference", "times", "kept", "times", "unchecked", "times"
     );
-    for (name, records) in desk::streams(LENGTH) {
-        same_results(&desk, &records).map_err(|message| format!("{name}: {message}"))?;
-        let proved = nanoseconds(&records, || on_bytes(&desk, &records, proved_call));
-        let reference = nanoseconds(&records, || on_bytes(&desk, &records, reference_call));
-        let kept = nanoseconds(&records, || prepared(&desk, &records, layout::is_whole));
-        let unchecked = nanoseconds(&records, || prepared(&desk, &records, |_| true));
+    for Measured {
+        name,
+        letters,
+        records,
+    } in desk::streams(LENGTH)
+    {
+        let desk = match letters {
+            Letters::Ctrl => &desk,
+            Letters::Meta => &with_meta,
+        };
+        same_results(desk, &records).map_err(|message| format!("{name}: {message}"))?;
+        let proved = nanoseconds(&records, || on_bytes(desk, &records, proved_call));
+        let reference = nanoseconds(&records, || on_bytes(desk, &records, reference_call));
+        let kept = nanoseconds(&records, || prepared(desk, &records, layout::is_whole));
+        let unchecked = nanoseconds(&records, || prepared(desk, &records, |_| true));
         println!(
             "{name:<30}{proved:>8.0}{reference:>11.0}{:>7.1}{kept:>7.0}{:>7.1}{unchecked:>11.0}{:>7.1}",
             reference / proved,
@@ -70,8 +90,8 @@ fn run() -> Result<(), String> {
     Ok(())
 }
 
-fn desk() -> Result<Desk, String> {
-    let text = desk::text().into_bytes();
+fn make(letters: Letters) -> Result<Desk, String> {
+    let text = desk::text(letters).into_bytes();
     let table = compile(&text).map_err(|refusal| format!("the table: {refusal:?}"))?;
     let mut bytes = vec![0; TABLE_BYTES];
     let answer = capi::compile(&text, &mut bytes);
@@ -79,20 +99,25 @@ fn desk() -> Result<Desk, String> {
         return Err(format!("the tables differ: {answer:?}"));
     }
     let map = desk::map();
-    let map_bytes = map.iter().flat_map(|number| number.to_le_bytes()).collect();
+    let modifier_map = desk::modifier_map();
+    let maps_bytes = layout::encode_maps(Maps {
+        keyboard: &map,
+        modifiers: &modifier_map,
+    });
     Ok(Desk {
         text,
         table,
         bytes,
         map,
-        map_bytes,
+        modifier_map,
+        maps_bytes,
     })
 }
 
 /// Every event's number and selection, and the state after it. The matcher over the whole history
 /// decides.
 fn same_results(desk: &Desk, records: &[Record]) -> Result<(), String> {
-    let mut rules = Matcher::new(&desk.table, &desk.map, MULTI_CLICK_TIME);
+    let mut rules = Matcher::new(&desk.table, desk.maps(), MULTI_CLICK_TIME);
     let mut prepared = prepared_matcher(desk);
     let mut states = [[0; STATE_BYTES]; 2];
     capi::fresh(&mut states[0]);
@@ -120,7 +145,7 @@ type State = [u8; STATE_BYTES];
 fn proved_call(desk: &Desk, state: &mut State, record: &Record) -> Outcome {
     let answer = capi::match_event(
         &desk.bytes,
-        &desk.map_bytes,
+        &desk.maps_bytes,
         MULTI_CLICK_TIME,
         state,
         record,
@@ -137,18 +162,24 @@ fn reference_call(desk: &Desk, state: &mut State, record: &Record) -> Outcome {
     let Some(context) = layout::decode_state(state) else {
         return outcome((Number::StateNotWhole, None));
     };
-    let numbers = desk.map_bytes.chunks_exact(4);
-    let map: Vec<u32> = numbers
-        .map(|four| u32::from_le_bytes([four[0], four[1], four[2], four[3]]))
-        .collect();
-    let mut matcher = BoundedMatcher::new(&table, &map, MULTI_CLICK_TIME, context);
+    let (keyboard, modifiers) = layout::decode_maps(&desk.maps_bytes);
+    let maps = Maps {
+        keyboard: &keyboard,
+        modifiers,
+    };
+    let mut matcher = BoundedMatcher::new(&table, maps, MULTI_CLICK_TIME, context);
     let answer = matcher.call(record, ORDER);
     state.copy_from_slice(&layout::encode_state(matcher.kept()));
     outcome(answer)
 }
 
 fn prepared_matcher(desk: &Desk) -> BoundedMatcher<'_> {
-    BoundedMatcher::new(&desk.table, &desk.map, MULTI_CLICK_TIME, Context::default())
+    BoundedMatcher::new(
+        &desk.table,
+        desk.maps(),
+        MULTI_CLICK_TIME,
+        Context::default(),
+    )
 }
 
 /// The least time of an event of the stream, in nanoseconds. A run gives its own time.

@@ -77,8 +77,8 @@ mod raw {
         pub fn tt_match(
             table: *const u8,
             table_length: usize,
-            map: *const u8,
-            map_length: usize,
+            maps: *const u8,
+            maps_length: usize,
             time: u32,
             state: *mut u8,
             state_length: usize,
@@ -194,7 +194,7 @@ pub fn fresh(state: &mut [u8]) -> Answer {
 
 pub fn match_event(
     table: &[u8],
-    map: &[u8],
+    maps: &[u8],
     time: u32,
     state: &mut [u8],
     record: &[u8],
@@ -204,8 +204,8 @@ pub fn match_event(
         raw::tt_match(
             table.as_ptr(),
             table.len(),
-            map.as_ptr(),
-            map.len(),
+            maps.as_ptr(),
+            maps.len(),
             time,
             state.as_mut_ptr(),
             state.len(),

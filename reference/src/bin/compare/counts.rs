@@ -55,12 +55,18 @@ impl fmt::Display for Numbers {
 pub struct Counts {
     pub cases: u64,
     pub compiled: Numbers,
+    /// Of these, texts with a name of R-1 in a line that is in the grammar.
+    pub texts_with_names: u64,
     pub merged: Numbers,
     pub written: Numbers,
     /// Questions for counts, names and parameters.
     pub asked: Numbers,
     pub matched: Numbers,
+    /// Of these, calls with a table that has a name.
+    pub matched_with_names: u64,
     pub selections: u64,
+    /// Of these, of a production that has a name.
+    pub selections_with_names: u64,
     pub damaged_tables: u64,
     pub whole_damaged_tables: u64,
     pub damaged_states: u64,
@@ -71,11 +77,14 @@ impl AddAssign<&Counts> for Counts {
     fn add_assign(&mut self, other: &Counts) {
         self.cases += other.cases;
         self.compiled += &other.compiled;
+        self.texts_with_names += other.texts_with_names;
         self.merged += &other.merged;
         self.written += &other.written;
         self.asked += &other.asked;
         self.matched += &other.matched;
+        self.matched_with_names += other.matched_with_names;
         self.selections += other.selections;
+        self.selections_with_names += other.selections_with_names;
         self.damaged_tables += other.damaged_tables;
         self.whole_damaged_tables += other.whole_damaged_tables;
         self.damaged_states += other.damaged_states;
@@ -92,12 +101,13 @@ impl Counts {
             && self.merged.each_of(&[0, 1, 11, 12, 17])
             && self.written.each_of(&[0, 1, 12])
             && self.asked.each_of(&[0, 1, 12, 16])
-            && self.matched.each_of(&[0, 1, 12, 13, 14])
-            && self.compiled.total() >= 200_000
+            && self.matched.each_of(&[0, 1, 12, 13, 14, 18])
+            && self.texts_with_names >= 300_000
             && self.merged.total() >= 20_000
             && self.written.total() >= 20_000
-            && self.matched.total() >= 2_000_000
+            && self.matched_with_names >= 3_000_000
             && self.selections >= 500_000
+            && self.selections_with_names >= 300_000
             && damaged >= 100_000
             && self.whole_damaged_tables >= 10_000
             && self.whole_damaged_states >= 10_000
@@ -108,11 +118,14 @@ impl fmt::Display for Counts {
     fn fmt(&self, out: &mut fmt::Formatter) -> fmt::Result {
         writeln!(out, "cases           {}", self.cases)?;
         writeln!(out, "compiled texts  {}", self.compiled)?;
+        writeln!(out, "  with names    {}", self.texts_with_names)?;
         writeln!(out, "merges          {}", self.merged)?;
         writeln!(out, "writes          {}", self.written)?;
         writeln!(out, "questions       {}", self.asked)?;
         writeln!(out, "matcher calls   {}", self.matched)?;
+        writeln!(out, "  with names    {}", self.matched_with_names)?;
         writeln!(out, "  selections    {}", self.selections)?;
+        writeln!(out, "    with names  {}", self.selections_with_names)?;
         writeln!(
             out,
             "damaged tables  {}, still whole {}",

@@ -13,6 +13,22 @@ const EDGES: [u16; 20] = [
     0, 1, 2, 3, 4, 5, 6, 7, 8, 9, 10, 24, 25, 34, 35, 64, 255, 8191, 8192, 0xFFFF,
 ];
 
+/// Keysym slots at the ends of their range: unused, without a mark, with one, both, or more.
+const SLOT_VALUES: [u32; 12] = [
+    0,
+    1,
+    0x1FFF_FFFF,
+    0x2000_0000,
+    0x2000_0001,
+    0x2000_0061,
+    0x3FFF_FFFF,
+    0x4000_0061,
+    0x6000_0000,
+    0x7FFF_FFFF,
+    0x8000_0000,
+    0xFFFF_FFFF,
+];
+
 /// Bytes at the ends of the ranges of an event's code, keycode and state.
 const SLOT_EDGES: [u8; 10] = [0, 1, 2, 3, 7, 8, 31, 32, 34, 35];
 
@@ -42,7 +58,10 @@ impl Comparison {
 
     /// A few calls with a table, from a fresh state on.
     fn match_some(&mut self, given: &Given, played: &Table) -> Compared<()> {
-        let list = events::list(&mut self.random, played);
+        let mut list = events::list(&mut self.random, played);
+        if self.random.percent(4) {
+            events::spoil_modifier_map(&mut self.random, &mut list.modifier_map);
+        }
         let keys = Keys::new(self, &list);
         let mut running = self.fresh(given, &keys)?;
         let length = if given.table.is_ok() { 8 } else { 1 };
@@ -61,6 +80,8 @@ impl Comparison {
                     let at = self.random.below(HEADER.words);
                     self.change_word(bytes, at);
                 }
+                3 => self.change_flags(bytes, used),
+                4 => self.change_slot(bytes, used),
                 _ => {
                     let at = self.used_word(used);
                     self.change_word(bytes, at);
@@ -73,7 +94,8 @@ impl Comparison {
     fn used_word(&mut self, used: &Used) -> usize {
         let (sections, count): (&[Section], usize) = match self.random.below(10) {
             0 => (&OF_PRODUCTIONS, used.productions),
-            1..=5 => (&OF_EVENTS, used.events),
+            1..=4 => (&OF_EVENTS, used.events),
+            5 => (&OF_SLOTS, used.events),
             6..=7 => (&OF_CALLS, used.calls),
             _ => (&OF_PARAMETERS, used.parameters),
         };
@@ -81,6 +103,37 @@ impl Comparison {
         let past = usize::from(self.random.percent(5));
         let at = self.random.below((count + past).clamp(1, section.words));
         section.first + at
+    }
+
+    /// Turns a bit over of an event's flags.
+    fn change_flags(&mut self, bytes: &mut [u8], used: &Used) {
+        let at = FLAGS.first + self.random.below(used.events.max(1));
+        let bit = self.random.below(16);
+        bytes[2 * at + bit / 8] ^= 1 << (bit % 8);
+    }
+
+    /// Changes a keysym slot of an event: the first unused one, or any. It becomes a number at
+    /// some end of the range, one near the slot before, or the one before itself.
+    fn change_slot(&mut self, bytes: &mut [u8], used: &Used) {
+        let event = self.random.below(used.events.max(1));
+        let slots = SLOTS.map(|sections| slot(bytes, sections, event));
+        let unused = slots.iter().position(|&slot| slot == 0);
+        let which = match unused {
+            Some(which) if self.random.percent(60) => which,
+            _ => self.random.below(slots.len()),
+        };
+        let before = slots[which.saturating_sub(1)];
+        let value = match self.random.below(8) {
+            0..=2 => *self.random.pick(&SLOT_VALUES),
+            3..=4 => before.wrapping_add(1),
+            5 => before ^ 1 << self.random.range(29, 31),
+            6 => before,
+            _ => (self.random.card32() & 0x1FFF_FFFF) + 0x2000_0000,
+        };
+        for (section, value) in SLOTS[which].into_iter().zip([value, value >> 16]) {
+            let at = 2 * (section.first + event);
+            bytes[at..at + 2].copy_from_slice(&(value as u16).to_le_bytes());
+        }
     }
 
     fn change_word(&mut self, bytes: &mut [u8], word: usize) {
@@ -124,6 +177,15 @@ impl Comparison {
             }
         }
     }
+}
+
+/// The number in a slot of an event.
+fn slot(bytes: &[u8], [low, high]: [Section; 2], event: usize) -> u32 {
+    let word = |section: Section| {
+        let at = 2 * (section.first + event);
+        u32::from(u16::from_le_bytes([bytes[at], bytes[at + 1]]))
+    };
+    word(low) + (word(high) << 16)
 }
 
 fn forget_last(bytes: &mut [u8], kept: usize) {

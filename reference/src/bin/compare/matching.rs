@@ -3,52 +3,63 @@
 use crate::capi;
 use crate::lent::Lent;
 use crate::tables::{answers, Compared, Comparison, Given};
-use glykorant_reference::generate::events::{EventList, RecordCall};
-use glykorant_reference::keyboard::MAP_LENGTH;
+use glykorant_reference::generate::events::{self, EventList, RecordCall};
 use glykorant_reference::layout::{self, Context, STATE_BYTES};
-use glykorant_reference::{Matcher, Number, Table};
+use glykorant_reference::{Maps, Matcher, Number, Table};
 
-/// The bytes of a keyboard map: four for each number, least significant first.
-pub fn map_bytes(map: &[u32]) -> Vec<u8> {
-    map.iter().flat_map(|number| number.to_le_bytes()).collect()
-}
-
-/// A keyboard map and a multi-click time, as the calls of a list share them.
-pub struct Keys<'l> {
-    numbers: &'l [u32],
+/// The maps, with what their bytes are, and a multi-click time, as the calls of a list share them.
+pub struct Keys {
+    keyboard: Vec<u32>,
+    modifiers: Vec<u8>,
     lent: Lent,
     multi_click_time: u32,
 }
 
-impl<'l> Keys<'l> {
-    pub fn new(comparison: &mut Comparison, list: &'l EventList) -> Keys<'l> {
+impl Keys {
+    pub fn new(comparison: &mut Comparison, list: &EventList) -> Keys {
+        let bytes = layout::encode_maps(list.maps());
+        Keys::of_bytes(comparison, &bytes, list.multi_click_time)
+    }
+
+    fn of_bytes(comparison: &mut Comparison, bytes: &[u8], multi_click_time: u32) -> Keys {
+        let (keyboard, modifiers) = layout::decode_maps(bytes);
         Keys {
-            numbers: &list.map,
-            lent: Lent::new(&mut comparison.random, &map_bytes(&list.map)),
-            multi_click_time: list.multi_click_time,
+            keyboard,
+            modifiers: modifiers.to_vec(),
+            lent: Lent::new(&mut comparison.random, bytes),
+            multi_click_time,
         }
     }
 
-    fn matcher(&self, table: &Table, context: Context) -> Matcher<'l> {
-        Matcher::resumed(table, self.numbers, self.multi_click_time, context)
+    fn maps(&self) -> Maps<'_> {
+        Maps {
+            keyboard: &self.keyboard,
+            modifiers: &self.modifiers,
+        }
+    }
+
+    fn matcher(&self, table: &Table, context: Context) -> Matcher<'_> {
+        Matcher::resumed(table, self.maps(), self.multi_click_time, context)
     }
 }
 
-/// A lent state, and the reference's matcher that has come to the same point: refused with 1, 12
-/// or 14 where there is none.
-pub struct Running<'l> {
+/// A lent state, and the reference's matcher that has come to the same point: refused with 1, 18,
+/// 12 or 14, in this order, where there is none.
+pub struct Running<'k> {
     state: Lent,
-    matcher: Result<Matcher<'l>, Number>,
+    matcher: Result<Matcher<'k>, Number>,
 }
 
-impl<'l> Running<'l> {
+impl<'k> Running<'k> {
     /// The bytes of a state are lent to calls with this table.
-    fn new(comparison: &mut Comparison, bytes: &[u8], given: &Given, keys: &Keys<'l>) -> Self {
-        let short = given.is_short() || keys.numbers.len() != MAP_LENGTH;
-        let matcher = match &given.table {
-            _ if short || bytes.len() < STATE_BYTES => Err(Number::ShortBuffer),
-            Err(number) => Err(*number),
-            Ok(table) => match layout::decode_state(bytes) {
+    fn new(comparison: &mut Comparison, bytes: &[u8], given: &Given, keys: &'k Keys) -> Self {
+        let maps = keys.maps().check();
+        let short = given.is_short() || bytes.len() < STATE_BYTES;
+        let matcher = match (maps, &given.table) {
+            _ if short || maps == Err(Number::ShortBuffer) => Err(Number::ShortBuffer),
+            (Err(number), _) => Err(number),
+            (_, Err(number)) => Err(*number),
+            (_, Ok(table)) => match layout::decode_state(bytes) {
                 None => Err(Number::StateNotWhole),
                 Some(context) => Ok(keys.matcher(table, context)),
             },
@@ -62,7 +73,7 @@ impl<'l> Running<'l> {
 
 impl Comparison {
     /// `tt_fresh` leaves the fresh state, in whatever memory is long enough.
-    pub fn fresh<'l>(&mut self, given: &Given, keys: &Keys<'l>) -> Compared<Running<'l>> {
+    pub fn fresh<'k>(&mut self, given: &Given, keys: &'k Keys) -> Compared<Running<'k>> {
         if self.random.percent(5) {
             let length = self.random.below(STATE_BYTES);
             let mut short = Lent::any(&mut self.random, length);
@@ -97,8 +108,9 @@ impl Comparison {
             call.order,
         );
         self.counts.matched.count(answer.number);
+        self.counts.matched_with_names += u64::from(given.has_names());
         given.check()?;
-        keys.lent.check("the map")?;
+        keys.lent.check("the maps")?;
         record.check("the record")?;
         let (number, selected) = match &mut running.matcher {
             Ok(matcher) => matcher.call(&call.record, call.order),
@@ -111,6 +123,7 @@ impl Comparison {
         }
         running.state.check("the state")?;
         self.counts.selections += u64::from(selected.is_some());
+        self.counts.selections_with_names += u64::from(given.selects_names(selected));
         Ok(selected)
     }
 
@@ -125,6 +138,9 @@ impl Comparison {
             }
             if self.random.percent(1) {
                 self.refused_over_lengths(given, list, &running, call)?;
+            }
+            if self.random.percent(1) {
+                self.refused_over_modifier_map(given, list, &running, call)?;
             }
         }
         Ok(())
@@ -152,7 +168,8 @@ impl Comparison {
         Ok(())
     }
 
-    /// A short table, a short state or a map of another length: 1, and nothing is changed.
+    /// A short table, a short state or maps that are too short: 1, and nothing is changed. Maps of
+    /// just the keyboard map's length have no modifier map: 18.
     fn refused_over_lengths(
         &mut self,
         given: &Given,
@@ -173,16 +190,35 @@ impl Comparison {
         let mut refused = Running::new(self, &state[..length], given, &keys);
         self.call(given, &keys, &mut refused, call)?;
 
-        let mut map = map_bytes(&list.map);
-        let length = *self.random.pick(&[0, 1983, 1985, 1988, 3968]);
-        map.resize(length, 0);
-        let other = Keys {
-            numbers: &[],
-            lent: Lent::new(&mut self.random, &map),
-            multi_click_time: list.multi_click_time,
-        };
+        let mut maps = layout::encode_maps(list.maps());
+        let length = *self.random.pick(&[0, 8, 1983, 1984]);
+        maps.resize(length, 0);
+        let other = Keys::of_bytes(self, &maps, list.multi_click_time);
         let mut refused = Running::new(self, state, given, &other);
         self.call(given, &other, &mut refused, call)?;
+        Ok(())
+    }
+
+    /// A modifier map that is refused: 18, whatever the table and the state are, unless one is too
+    /// short; and nothing is changed.
+    fn refused_over_modifier_map(
+        &mut self,
+        given: &Given,
+        list: &EventList,
+        running: &Running,
+        call: &RecordCall,
+    ) -> Compared<()> {
+        let mut list = list.clone();
+        events::spoil_modifier_map(&mut self.random, &mut list.modifier_map);
+        let keys = Keys::new(self, &list);
+        let mut state = running.state.bytes().to_vec();
+        match self.random.below(4) {
+            0 => self.damage_state(&mut state),
+            1 => state.truncate(self.random.below(STATE_BYTES)),
+            _ => {}
+        }
+        let mut refused = Running::new(self, &state, given, &keys);
+        self.call(given, &keys, &mut refused, call)?;
         Ok(())
     }
 }

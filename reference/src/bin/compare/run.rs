@@ -12,7 +12,7 @@ use std::sync::atomic::{AtomicU64, Ordering};
 use std::thread;
 
 /// The gate's seeds, each with the number of its cases.
-const GATE: [(u64, u64); 3] = [(1, 90_000), (2_026, 90_000), (4_294_967_296, 60_000)];
+const GATE: [(u64, u64); 3] = [(1, 140_000), (2_026, 140_000), (4_294_967_296, 100_000)];
 
 /// So many cases are one thread's at a time.
 const CHUNK: u64 = 500;

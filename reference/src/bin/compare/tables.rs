@@ -6,8 +6,10 @@ use crate::lent::Lent;
 use glykorant_reference::calls::{self, Part, Texts};
 use glykorant_reference::layout::{self, TABLE_BYTES};
 use glykorant_reference::limits::TEXT_BYTES;
+use glykorant_reference::names::{self, Modifier};
 use glykorant_reference::random::Random;
-use glykorant_reference::{compile, merge, write, Number, Refusal, Span, Table};
+use glykorant_reference::text::{self, Description, ModifierName, WrittenEvent};
+use glykorant_reference::{compile, merge, write, Number, Production, Refusal, Span, Table};
 
 /// What is compared, or how the two implementations differ.
 pub type Compared<T> = Result<T, String>;
@@ -34,6 +36,16 @@ pub fn answers(what: &str, found: Answer, number: Number, value: u64) -> Compare
 pub struct Given {
     pub lent: Lent,
     pub table: Result<Table, Number>,
+    /// Whether each production has a name.
+    named: Vec<bool>,
+}
+
+fn named(table: &Table) -> Vec<bool> {
+    let has_names = |production: &Production| {
+        let mut events = production.events.iter();
+        events.any(|spec| spec.test.has_names())
+    };
+    table.productions.iter().map(has_names).collect()
 }
 
 impl Given {
@@ -44,8 +56,19 @@ impl Given {
         };
         Given {
             lent: Lent::new(random, bytes),
+            named: table.as_ref().map_or_else(|_| Vec::new(), named),
             table,
         }
+    }
+
+    /// Whether the table has a name.
+    pub fn has_names(&self) -> bool {
+        self.named.contains(&true)
+    }
+
+    /// Whether a production with a name is selected.
+    pub fn selects_names(&self, selected: Option<usize>) -> bool {
+        selected.is_some_and(|production| self.named[production])
     }
 
     pub fn is_short(&self) -> bool {
@@ -129,6 +152,8 @@ impl Comparison {
             }),
             false => compile(text),
         };
+        let read_by_lines = !matches!(answer.number, 1..=3);
+        self.counts.texts_with_names += u64::from(read_by_lines && has_names(text));
         match expected {
             Ok(table) => {
                 answers("compile", answer, Number::Accepted, 0)?;
@@ -346,6 +371,31 @@ impl Comparison {
     }
 }
 
+/// Whether a line of the text that is in the grammar has a name of R-1, refused or not.
+fn has_names(text: &[u8]) -> bool {
+    let lines = text::lines(text).into_iter();
+    let mut productions = lines.filter_map(|line| text::parse(text, line).ok());
+    productions.any(|production| production.events.iter().any(is_named))
+}
+
+fn is_named(event: &WrittenEvent) -> bool {
+    match event {
+        WrittenEvent::KeyCharacter(character) => character.mark == Some(b'$'),
+        WrittenEvent::Described(Description {
+            list, type_name, ..
+        }) => {
+            let mut modifiers = list.modifiers.iter();
+            let named = modifiers.any(|written| match written.name {
+                ModifierName::Plain(name) => {
+                    matches!(names::modifier(name), Some(Modifier::Name(_)))
+                }
+                ModifierName::Keysym(_) => true,
+            });
+            named || *type_name == b"Meta"
+        }
+    }
+}
+
 /// The number of parameters of each call of each production.
 fn shape(table: &Table) -> Vec<Vec<usize>> {
     let productions = table.productions.iter();
@@ -381,6 +431,7 @@ fn accepted(mut lent: Lent, table: &Table) -> Compared<Given> {
     lent.check("the output table")?;
     Ok(Given {
         lent,
+        named: named(&found),
         table: Ok(found),
     })
 }

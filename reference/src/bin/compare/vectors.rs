@@ -1,11 +1,11 @@
-//! Worked examples, run through both implementations and compared with what 01 and Appendix B
-//! say of them.
+//! Worked examples, run through both implementations and compared with what 01, R-1 of 02 and
+//! Appendix B say of them.
 
 use crate::matching::Keys;
 use crate::tables::{ensure, Compared, Comparison, LentTexts};
 use glykorant_reference::generate::events::{EventList, RecordCall};
 use glykorant_reference::keyboard::MAP_LENGTH;
-use glykorant_reference::modifiers::{BUTTON1, BUTTON2, CTRL, LOCK, SHIFT};
+use glykorant_reference::modifiers::{BUTTON1, BUTTON2, CTRL, LOCK, MOD1, MOD2, MOD4, SHIFT};
 use glykorant_reference::{compile, write};
 
 /// A text with its number and place, and the canonical text where it is accepted.
@@ -24,10 +24,6 @@ const OF_01: &[Text] = &[
     ("<Map>:f(\"\")", 0, 0, "<MapNotify>:f(\"\")\n"),
     ("<Map>:f(,)", 0, 0, "<MapNotify>:f(\"\",\"\")\n"),
     // "Not built yet".
-    ("Meta<Key>a:", 10, 0, ""),
-    ("<Meta>a:", 10, 0, ""),
-    ("@x<Key>a:", 10, 0, ""),
-    ("\"$a\":", 10, 0, ""),
     ("<Key>(2+)a:x()", 10, 0, ""),
     ("<Prop>WM_NAME:", 10, 0, ""),
     // "`#replace`, `#override` or `#augment` may stand as the whole first line".
@@ -74,6 +70,47 @@ const OF_01: &[Text] = &[
     ("", 0, 0, ""),
 ];
 
+const OF_02: &[Text] = &[
+    ("Meta<Key>a:", 0, 0, "Meta<KeyPress>0x61:\n"),
+    ("<Meta>a:", 0, 0, "Meta<KeyPress>0x61:\n"),
+    ("@x<Key>a:", 0, 0, "@0x78<KeyPress>0x61:\n"),
+    ("\"$a\":", 0, 0, "Meta<KeyPress>0x61:\n"),
+    ("None<Meta>a:", 0, 0, "!Meta<KeyPress>0x61:\n"),
+    ("Any<Meta>a:", 0, 0, "Meta<KeyPress>0x61:\n"),
+    // "The writer puts the names after Button5."
+    (
+        "~m @0x100 m ~@b a @a ~Shift Button5<Key>:",
+        0,
+        0,
+        "~Shift Button5 Meta ~Meta Alt @0x61 ~@0x62 @0x100<KeyPress>:\n",
+    ),
+    (
+        "su a h m<Key>a:",
+        0,
+        0,
+        "Meta Alt Hyper Super<KeyPress>0x61:\n",
+    ),
+    // "Over four different keysyms in an event is 11."
+    (
+        "@a ~@a @97 @b @c @d Meta Alt<Key>e:",
+        0,
+        0,
+        "Meta Alt @0x61 ~@0x61 @0x62 @0x63 @0x64<KeyPress>0x65:\n",
+    ),
+    ("<Map>:\n@a @b @c @d ~@e<Key>a:", 11, 7, ""),
+    ("@a @b @c @d @e<Key>a,<Foo>:", 5, 0, ""),
+    // "After `@` the run in 01 is read as a key detail is."
+    ("@5 @10<Key>:", 0, 0, "@0xa @0x35<KeyPress>:\n"),
+    ("@Meta_L<Key>:", 5, 0, ""),
+    ("@0x20000000<Prop>foo:", 6, 0, ""),
+    // "8 as if these names weren't there."
+    ("!Meta<Ctrl>a:", 8, 0, ""),
+    ("Meta ~Meta<Key>a:", 0, 0, "Meta ~Meta<KeyPress>0x61:\n"),
+    ("Meta<Expose>:", 7, 0, ""),
+    ("Meta<Prop>foo:", 10, 0, ""),
+    (":Meta Shift<Key>a:", 9, 0, ""),
+];
+
 const OF_APPENDIX_B: &[Text] = &[
     (
         "<Btn1Down>:\tDoSomething()\n\t<Btn2Down>:\tDoSomethingElse()",
@@ -113,9 +150,9 @@ const OF_APPENDIX_B: &[Text] = &[
     ),
     (
         "Shift Meta <Btn1Down>, Shift Meta<Btn1Up>: gyre()",
-        10,
         0,
-        "",
+        0,
+        "Shift Meta<ButtonPress>Button1,Shift Meta<ButtonRelease>Button1:gyre()\n",
     ),
     ("Shift <Btn1Up>(2+) : and()", 10, 0, ""),
     ("<Enter> : gimble()", 0, 0, "<EnterNotify>:gimble()\n"),
@@ -152,7 +189,8 @@ const ENTER: u8 = 7;
 /// Code, detail, time and state of an event, and what is selected at it.
 type Step = (u8, u8, u32, u16, Option<usize>);
 
-/// A text, a multi-click time and a list of calls. The keyboard has one key, (a, A).
+/// A text, a multi-click time and a list of calls. The keyboard has one key, (a, A), and no
+/// modifiers.
 type List = (&'static str, u32, &'static [Step]);
 
 const P: &str = "<Btn1Down>,<Btn1Up>:toves()\n<Btn1Up>:did()";
@@ -282,13 +320,117 @@ const LISTS: &[List] = &[
     ),
 ];
 
+/// A text, the modifier map with one keycode in a row, and a list of calls. The keyboard has also
+/// Meta's keys.
+type NamedList = (&'static str, [u8; 8], &'static [Step]);
+
+const META_L: u8 = 64;
+const META_R: u8 = 65;
+
+const NAMED_LISTS: &[NamedList] = &[
+    // "Meta on Mod1" and "Meta on Mod4".
+    (
+        "Meta<Key>a:x()\n~Meta<Key>a:y()",
+        [0, 0, 0, META_L, 0, 0, 0, 0],
+        &[
+            (KEY, KEYCODE, 0, 0, Some(1)),
+            (KEY, KEYCODE, 0, MOD1, Some(0)),
+            (KEY, KEYCODE, 0, MOD4, Some(1)),
+        ],
+    ),
+    (
+        "Meta<Key>a:x()\n~Meta<Key>a:y()",
+        [0, 0, 0, 0, 0, 0, META_R, 0],
+        &[
+            (KEY, KEYCODE, 0, 0, Some(1)),
+            (KEY, KEYCODE, 0, MOD1, Some(1)),
+            (KEY, KEYCODE, 0, MOD4, Some(0)),
+        ],
+    ),
+    // "A listed name asks all its bits set; with `~`, all clear."
+    (
+        "Meta<Key>a:x()\n~Meta<Key>a:y()",
+        [0, 0, 0, META_L, META_R, 0, 0, 0],
+        &[
+            (KEY, KEYCODE, 0, 0, Some(1)),
+            (KEY, KEYCODE, 0, MOD1, None),
+            (KEY, KEYCODE, 0, MOD2, None),
+            (KEY, KEYCODE, 0, MOD1 | MOD2, Some(0)),
+        ],
+    ),
+    // "With `!`, the bits of a listed name count as listed."
+    (
+        "!Meta<Key>a:x()\nNone<Key>a:y()",
+        [0, 0, 0, META_L, 0, 0, 0, 0],
+        &[
+            (KEY, KEYCODE, 0, MOD1, Some(0)),
+            (KEY, KEYCODE, 0, MOD1 | CTRL, None),
+            (KEY, KEYCODE, 0, 0, Some(1)),
+        ],
+    ),
+    // "Beside a colon a resolved Shift or Lock isn't tested."
+    (
+        ":Meta<Key>a:x()\n:Meta<Key>A:y()",
+        [META_L, 0, 0, 0, 0, 0, 0, 0],
+        &[
+            (KEY, KEYCODE, 0, 0, Some(0)),
+            (KEY, KEYCODE, 0, SHIFT, Some(1)),
+            (KEY, KEYCODE, 0, LOCK, Some(1)),
+        ],
+    ),
+    (
+        "Meta<Key>a:x()\nMeta<Key>A:y()",
+        [META_L, 0, 0, 0, 0, 0, 0, 0],
+        &[
+            (KEY, KEYCODE, 0, 0, None),
+            (KEY, KEYCODE, 0, SHIFT, Some(1)),
+        ],
+    ),
+    // "Contradicting tests match nothing."
+    (
+        "Meta ~Mod1<Key>a:x()\n<Key>a:y()",
+        [0, 0, 0, META_L, 0, 0, 0, 0],
+        &[
+            (KEY, KEYCODE, 0, 0, Some(1)),
+            (KEY, KEYCODE, 0, MOD1, Some(1)),
+        ],
+    ),
+    // "A name with no bit, listed without `~`, makes its event match nothing", but the event's
+    // type is heard.
+    (
+        "<Btn1Down>,<Btn1Up>:x()\nMeta<Motion>:y()",
+        [0; 8],
+        &[
+            (PRESS, 1, 0, 0, None),
+            (MOTION, 0, 5, BUTTON1, None),
+            (RELEASE, 1, 10, 0, None),
+        ],
+    ),
+    // "For single click on Button 1 Up with Shift and Meta".
+    (
+        "Shift Meta <Btn1Down>, Shift Meta<Btn1Up>: gyre()",
+        [0, 0, 0, META_L, 0, 0, 0, 0],
+        &[
+            (PRESS, 1, 0, SHIFT | MOD1, None),
+            (RELEASE, 1, 10, SHIFT | MOD1 | BUTTON1, Some(0)),
+            (PRESS, 1, 20, SHIFT, None),
+            (RELEASE, 1, 30, SHIFT | MOD1, None),
+        ],
+    ),
+];
+
 /// Runs all of them.
 pub fn run(comparison: &mut Comparison) -> Compared<()> {
-    for text in OF_01.iter().chain(OF_APPENDIX_B) {
+    for text in OF_01.iter().chain(OF_02).chain(OF_APPENDIX_B) {
         run_text(comparison, text).map_err(|message| format!("{:?}: {message}", text.0))?;
     }
-    for list in LISTS {
-        run_list(comparison, list).map_err(|message| format!("{:?}: {message}", list.0))?;
+    for (text, time, steps) in LISTS {
+        run_list(comparison, text, *time, [0; 8], steps)
+            .map_err(|message| format!("{text:?}: {message}"))?;
+    }
+    for (text, modifier_map, steps) in NAMED_LISTS {
+        run_list(comparison, text, 100, *modifier_map, steps)
+            .map_err(|message| format!("{text:?}: {message}"))?;
     }
     events_in_a_production(comparison)
 }
@@ -315,14 +457,27 @@ fn run_text(comparison: &mut Comparison, vector: &Text) -> Compared<()> {
     Ok(())
 }
 
-fn run_list(comparison: &mut Comparison, vector: &List) -> Compared<()> {
-    let &(text, multi_click_time, steps) = vector;
+fn run_list(
+    comparison: &mut Comparison,
+    text: &str,
+    multi_click_time: u32,
+    modifier_map: [u8; 8],
+    steps: &[Step],
+) -> Compared<()> {
     let given = comparison.compile(text.as_bytes())?.ok_or("refused")?;
     let mut map = vec![0; MAP_LENGTH];
-    let at = 2 * usize::from(KEYCODE - 8);
-    map[at..at + 2].copy_from_slice(&[0x61, 0x41]);
+    let pairs = [
+        (KEYCODE, [0x61, 0x41]),
+        (META_L, [0xFFE7, 0]),
+        (META_R, [0, 0xFFE8]),
+    ];
+    for (keycode, pair) in pairs {
+        let at = 2 * usize::from(keycode - 8);
+        map[at..at + 2].copy_from_slice(&pair);
+    }
     let list = EventList {
         map,
+        modifier_map: modifier_map.to_vec(),
         multi_click_time,
         calls: steps.iter().map(record).collect(),
     };

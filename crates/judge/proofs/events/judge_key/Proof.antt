@@ -26,6 +26,9 @@ key-press-requires-3 c κs = search needs
 enum-told-4 : tie.Need-enum-told-4
 enum-told-4 c = search needs
 
+key-press-requires-4 : tie.Need-key-press-requires-4
+key-press-requires-4 c κs = search needs
+
 returns : tie.Need-returns
 returns c = rw (c .before .enum-told .given .1) (ap Judged.Keep (c .key-press .ensures))
 
@@ -36,7 +39,7 @@ returns-3 : tie.Need-returns-3
 returns-3 c = rw (c .before .enum-told3 .given .1) (ap Judged.Keep (c .key-press3 .ensures))
 
 returns-4 : tie.Need-returns-4
-returns-4 c = rw (c .enum-told4 .given .1)
+returns-4 c = rw (c .before .enum-told4 .given .1) (ap Judged.Keep (c .key-press4 .ensures))
 
 pub judge-key-spec : {M : Type 1} → statement M
 judge-key-spec =
@@ -49,6 +52,7 @@ judge-key-spec =
     enum-told-3
     key-press-requires-3
     enum-told-4
+    key-press-requires-4
     returns
     returns-2
     returns-3

@@ -1,20 +1,23 @@
 -- `judge::spans::alone` meets its contract.
 use mathlib.Core.Path.{_≡_, sym}
 use mathlib.Core.Bool.{Bool, true, false}
-use Rattle.list_masks.specs.Summary.{summaryOf}
+use Rattle.model.specs.Named.{noKeysyms}
+use Rattle.list_masks.specs.Summary.{summary, summaryOf}
 use Rattle.judge.specs.Spans.{loneListOf}
 use Rattle.list_masks.proofs.Listed.{summary-none, summary-any}
+use borrow.Author.Needs.{needs}
 use Rattle.judge.proofs.spans.alone.Statement.{statement}
 use Rattle.judge.proofs.spans.alone.Tie as tie
 
-lone : (none : Bool)
-    → summaryOf (loneListOf none)
-    ≡ record { written = true; «others_clear» = none; colon = false; unknown = false; unbuilt = false; set = 0; clear = 0 }
+lone : (none : Bool) → summaryOf (loneListOf none) ≡ summary true none false false false 0 0 0 noKeysyms false
 lone true = summary-none
 lone false = summary-any
 
+no-keysyms-requires : tie.Need-no-keysyms-requires
+no-keysyms-requires c κs = search needs
+
 returns : tie.Need-returns
-returns c = sym (lone (c .args .none))
+returns c = rw (c .no-keysyms .ensures) (sym (lone (c .before .args .none)))
 
 pub alone-spec : {M : Type 1} → statement M
-alone-spec = tie.close (tie.spec returns)
+alone-spec = tie.close (tie.spec no-keysyms-requires returns)

@@ -1,9 +1,12 @@
 -- `judge::spans::judge_event` meets its contract.
+use native.Mathlib.Omega.{arith}
 use mathlib.Core.Path.{sym, ap, _∙_}
 use Rattle.model.specs.Judging.{judgedAs, judgedWritten}
+use Rattle.event_scanner.specs.Spans.{listIn}
 use Rattle.judge.specs.Spans.{writtenIn}
 use Rattle.list_masks.proofs.Listed.{summary-in}
 use Rattle.judge.proofs.NameRanges.{type-in}
+use Rattle.judge.proofs.Words.{spans-rising}
 use Rattle.judge.proofs.Same.{judged-from, with-number}
 use borrow.Author.Needs.{needs}
 use Rattle.judge.proofs.spans.judge_event.Statement.{statement}
@@ -47,7 +50,9 @@ detail-of-requires c κs = search needs
 
 judge-parts-requires : tie.Need-judge-parts-requires
 judge-parts-requires c κs = (
-  rw (c .before .before .before .list-of .ensures) (summary-in _),
+  rw (c .before .before .before .list-of .ensures)
+      (summary-in (listIn (c .before .before .before .before .before .before .before .before .before .before .before .before .before .args .l .now) (c .before .before .before .before .before .before .before .before .before .before .before .before .before .args .e .list))
+      (spans-rising (c .before .before .before .before .before .before .before .before .before .before .before .before .before .args .l .now) (λ i. omega (arith, c .before .before .before .before .before .before .before .before .before .before .before .before .shared-slice-known .given i)) (c .before .before .before .before .before .before .before .before .before .before .before .before .before .args .e .list))),
   type-in _ _ (sym (c .before .before .before .before .before .before .before .type-named .ensures)
       ∙ c .before .before .before .before .before .ty .given .1) .added,
 )
@@ -71,7 +76,9 @@ returns-2 c =
     (c .before .before .before .before .before .before .before .before .before .before .before .before .before .before .args .l .now) (c .before .before .before .before .before .before .before .before .before .before .before .before .before .before .args .e) in
     with-number w _
     (c .judge-parts .ensures
-    ∙ judged-from w _ _ _ _ known
+    ∙ judged-from w _ _ _ _
+    (spans-rising (c .before .before .before .before .before .before .before .before .before .before .before .before .before .before .args .l .now) (λ i. omega (arith, c .before .before .before .before .before .before .before .before .before .before .before .before .before .shared-slice-known .given i)) (c .before .before .before .before .before .before .before .before .before .before .before .before .before .before .args .e .list))
+    known
     (c .before .before .before .before .list-of .ensures) (c .before .before .before .count-at .ensures)
     (c .before .detail-of .ensures))
 

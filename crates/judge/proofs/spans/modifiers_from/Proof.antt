@@ -1,13 +1,15 @@
 -- `judge::spans::modifiers_from` meets its contract. The loop's invariant: the value is that of the modifiers read so far.
 use mathlib.Core.Path.{_≡_, sym, ap, _∙_}
-use Prim.Native.Nat.{_-_}
+use Prim.Native.Nat.{_-_, _<_}
 use native.Mathlib.Omega.{arith}
 use lib.ListN.{length}
+use Rattle.model.specs.Bytes.{byteAt}
 use Rattle.model.specs.Events.{modifierAt}
 use Rattle.model.specs.declared.scan.ModifierRead.{ModifierRead}
 use Rattle.scanner.proofs.Ranges.{ModifierIn}
-use Rattle.list_masks.specs.Summary.{withName}
+use Rattle.list_masks.specs.Summary.{withName, withKeysymRead}
 use Rattle.judge.proofs.NameRanges.{name-in}
+use Rattle.judge.proofs.Words.{keysym-in, part-in}
 use Rattle.judge.proofs.Reading.{Read, read-place, read-start, read-value-in, read-broken, read-end, read-name, read-keysym}
 use borrow.Author.Needs.{needs}
 use Rattle.judge.proofs.spans.modifiers_from.Statement.{statement}
@@ -45,10 +47,11 @@ KeysymRead = tie.After-known-told2 Inv-loop μ-loop
 
 abbrev keysymAt : KeysymRead → ModifierRead
 keysymAt c =
-    ModifierRead.Keysym (c .before .end .given .0 .0) (c .before .end .given .0 .1 .0) (c .before .end .given .0 .1 .1 .0)
+    ModifierRead.Keysym (c .before .tilde2 .given .0 .0) (c .before .tilde2 .given .0 .1 .0)
+    (c .before .tilde2 .given .0 .1 .1 .0)
 
 keysym-read : (c : KeysymRead) → modifierAt (c .before .before .before .before .before .before .before .args .l .now) (c .before .before .before .before .loop .i) ≡ keysymAt c
-keysym-read c = sym (c .before .before .before .modifier-at .ensures) ∙ c .before .end .given .1
+keysym-read c = sym (c .before .before .before .modifier-at .ensures) ∙ c .before .tilde2 .given .1
 
 keysym-place : (c : KeysymRead) → ModifierIn (length (c .before .before .before .before .before .before .before .args .l .now)) (c .before .before .before .before .loop .i) (keysymAt c)
 keysym-place c =
@@ -121,23 +124,44 @@ loop-again c =
     (omega (arith, f .0, f .1, f .2))
     (f .2)
 
-enum-known-end : tie.Need-enum-known-end Inv-loop μ-loop
-enum-known-end c = search needs
+enum-known-tilde-2 : tie.Need-enum-known-tilde-2 Inv-loop μ-loop
+enum-known-tilde-2 c = search needs
+
+sub-key-detail : tie.Need-sub-key-detail Inv-loop μ-loop
+sub-key-detail c = let f = keysym-place c in omega (arith, f .0, f .1, f .2)
+
+part-key-detail-start : tie.Need-part-key-detail-start Inv-loop μ-loop
+part-key-detail-start c = let f = keysym-place c in omega (arith, f .0, f .1, f .2)
+
+part-key-detail-end : tie.Need-part-key-detail-end Inv-loop μ-loop
+part-key-detail-end c = let f = keysym-place c in omega (arith, f .0, f .1, f .2)
+
+key-detail-requires : tie.Need-key-detail-requires Inv-loop μ-loop
+key-detail-requires c κs = search needs
+
+-- the run begins with a byte
+run-byte : (c : KeysymRead) → byteAt (c .before .before .before .before .before .before .before .args .l .now) (c .before .tilde2 .given .0 .1 .0) < 256
+run-byte c = omega (arith, c .before .before .before .before .before .before .shared-slice-known .given (c .before .tilde2 .given .0 .1 .0))
 
 with-keysym-requires : tie.Need-with-keysym-requires Inv-loop μ-loop
-with-keysym-requires c κs = search needs
+with-keysym-requires c κs = (
+  read-value-in _ _ _ _ _ _ (c .before .before .before .before .before .before .loop .inv),
+  rw (c .key-detail .ensures)
+      (keysym-in _ (part-in (c .before .before .before .before .before .before .before .before .before .args .l .now) (c .before .before .before .tilde2 .given .0 .1 .0) (c .before .before .before .tilde2 .given .0 .1 .1 .0) (run-byte (c .before .before)))),
+)
 
 loop-less-2 : tie.Need-loop-less-2 Inv-loop μ-loop
-loop-less-2 c = let f = keysym-place (c .before) in omega (arith, f .0, f .1, f .2)
+loop-less-2 c = let f = keysym-place (c .before .before .before) in omega (arith, f .0, f .1, f .2)
 
 loop-again-2 : tie.Need-loop-again-2 Inv-loop μ-loop
 loop-again-2 c =
-    let f = keysym-place (c .before) in
-    read-keysym _ _ _ _ _ _ (c .before .before .before .before .before .loop .inv) _ _ _ _
-    (keysym-read (c .before))
-    (c .with-keysym .ensures)
+    let f = keysym-place (c .before .before .before) in
+    read-keysym _ _ _ _ _ _ (c .before .before .before .before .before .before .before .loop .inv) _ _ _ _
+    (keysym-read (c .before .before .before))
+    (c .with-keysym .ensures ∙ ap (withKeysymRead _ _) (c .before .key-detail .ensures))
     (omega (arith, f .0, f .1, f .2))
     (f .2)
+    (run-byte (c .before .before .before))
 
 pub modifiers-from-spec : {M : Type 1} → statement M
 modifiers-from-spec =
@@ -161,7 +185,11 @@ modifiers-from-spec =
     with-name-requires
     loop-less
     loop-again
-    enum-known-end
+    enum-known-tilde-2
+    sub-key-detail
+    part-key-detail-start
+    part-key-detail-end
+    key-detail-requires
     with-keysym-requires
     loop-less-2
     loop-again-2)

@@ -3,7 +3,7 @@ use lib.ListN.{length}
 use Rattle.model.specs.Events.{leftSide}
 use Rattle.event_scanner.proofs.LeftSide.{LeftIn, left-in}
 use Rattle.scanner.proofs.Runs.{told}
-use Rattle.lines.proofs.Verdict.{left-is-read, no-left, no-right, event-refused, all-kept}
+use Rattle.lines.proofs.Verdict.{left-is-read, no-left, no-right, event-refused, event-crowded, all-kept}
 use borrow.Author.Needs.{needs}
 use Rattle.lines.proofs.line.judge_line.Statement.{statement}
 use Rattle.lines.proofs.line.judge_line.Tie as tie
@@ -36,6 +36,9 @@ judge-left-requires c κs =
 enum-known-n : tie.Need-enum-known-n
 enum-known-n c = search needs
 
+enum-told-3 : tie.Need-enum-told-3
+enum-told-3 c = search needs
+
 enum-known-events : tie.Need-enum-known-events
 enum-known-events c = search needs
 
@@ -62,6 +65,16 @@ returns-3 c =
 
 returns-4 : tie.Need-returns-4
 returns-4 c =
+    let l = c .before .before .before .before .before .before .before .before .before .before .before .before .args .l .now in
+    let t = c .before .before .before .before .before .before .before .before .before .before .before .before .args .t in
+    let e = sym (c .before .before .before .before .before .before .before .before .before .before .left-side .ensures) ∙ c .before .before .before .before .before .before .before .before .next .given .1 in
+    let q = sym (c .before .before .before .before .before .before .right-side .ensures) ∙ c .before .before .before .before .calls .given .1 in
+    let g = c .before .before .before .before .calls .given .0 in
+    event-crowded l t (c .before .before .before .before .before .before .before .before .next .given .0 .0) e (g .0) (g .1 .0) (g .1 .1 .0) q
+    (sym (c .before .before .judge-left .ensures) ∙ c .enum-told3 .given .1)
+
+returns-5 : tie.Need-returns-5
+returns-5 c =
     let l = c .before .before .before .before .before .before .before .before .before .before .before .before .before .before .args .l .now in
     let t = c .before .before .before .before .before .before .before .before .before .before .before .before .before .before .args .t in
     let e = sym (c .before .before .before .before .before .before .before .before .before .before .before .before .left-side .ensures) ∙ c .before .before .before .before .before .before .before .before .before .before .next .given .1 in
@@ -83,9 +96,11 @@ judge-line-spec =
     enum-known-calls
     judge-left-requires
     enum-known-n
+    enum-told-3
     enum-known-events
     limit-requires
     returns
     returns-2
     returns-3
-    returns-4)
+    returns-4
+    returns-5)

@@ -1,0 +1,45 @@
+-- The keysyms of an event in four slots, with one more: what src/lib.rt computes. proofs/Same shows that it is `withKeysym` of
+-- the rules.
+use Prim.Native.Nat.{ℕ, _+_, _<_}
+use mathlib.Core.Bool.{Bool, cond, not, _||_}
+use mathlib.Core.List.{List}
+use lib.Dec.{eqb, ltb}
+use lib.ListN.{length}
+use Rattle.model.specs.Limits.{keysymsOfEventLimit}
+use Rattle.model.specs.Named.{listedMark, markedKeysym, markListed, keysymsIn}
+use Rattle.model.specs.declared.events.Keysyms.{Keysyms}
+use Rattle.keysym_list.specs.declared.Slots.{Slots}
+use Rattle.keysym_list.specs.declared.Passed.{Passed}
+
+-- of a list of keysyms with marks
+abbrev pub slotsOf : List ℕ → Slots
+slotsOf ss = record { keysyms = keysymsIn ss; over = ltb keysymsOfEventLimit (length ss) }
+
+abbrev pub leaves : (slot carried : ℕ) → Passed
+leaves slot carried = record { slot = slot; carried = carried }
+
+-- a slot that a carried number passes: it keeps what has the lower keysym and hands the other on; 0 is nothing
+unfoldable pub passed : (tilde : Bool) (slot carried : ℕ) → Passed
+passed tilde slot carried =
+    cond (eqb carried 0) (leaves slot 0)
+    (cond (eqb slot 0) (leaves carried 0)
+    (cond (ltb (markedKeysym carried) (markedKeysym slot)) (leaves carried slot)
+    (cond (eqb (markedKeysym carried) (markedKeysym slot)) (leaves (markListed tilde slot) 0) (leaves slot carried))))
+
+unfoldable pub withOneMore : Keysyms → (over tilde : Bool) → ℕ → Slots
+withOneMore k over tilde v =
+    let first = passed tilde (k .first) (v + listedMark tilde) in
+    let second = passed tilde (k .second) (first .carried) in
+    let third = passed tilde (k .third) (second .carried) in
+    let fourth = passed tilde (k .fourth) (third .carried) in
+    record {
+      keysyms = record { first = first .slot; second = second .slot; third = third .slot; fourth = fourth .slot };
+      over = over || not (eqb (fourth .carried) 0);
+    }
+
+-- no number has a further mark
+pub record SlotsIn (k : Keysyms) : Type 0 where
+  pub first : k .first < 0x80000000
+  pub second : k .second < 0x80000000
+  pub third : k .third < 0x80000000
+  pub fourth : k .fourth < 0x80000000
