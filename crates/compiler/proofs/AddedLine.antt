@@ -9,7 +9,7 @@ use Rattle.model.specs.Lists.{inAll}
 use Rattle.model.specs.Numbers.{pastLimit}
 use Rattle.model.specs.Events.{WrittenEvent, EventsRead, events, leftSide}
 use Rattle.model.specs.Calls.{WrittenCall, CallsRead, calls, rightSide}
-use Rattle.model.specs.Compiling.{passesLimit, withCalls, withEvents, lineRead, EventsJudged, keep, judgedAll, callOf, LineOutcome, add, lineJudged, lineFrom, lineOutcome}
+use Rattle.model.specs.Compiling.{passesLimit, withCalls, withEvents, lineRead, EventsJudged, keep, crowded, judgedAll, callOf, LineOutcome, add, lineJudged, lineFrom, lineOutcome}
 use Rattle.model.specs.Tables.{Call, Production}
 use Rattle.model.specs.declared.events.KeptEvent.{KeptEvent}
 use Rattle.event_scanner.specs.Spans.{eventsIn}
@@ -70,6 +70,7 @@ module _ (ps : List Production) (base : ℕ) (l : List ℕ) (p : Production) whe
       → rightSide l next ≡ calls cs → judgedAll es ≡ j → lineJudged ps base j cs ≡ add p → LineAdds ps base l p
   judged-adds es next (keep ks) cs a b c h =
       pick-adds es next ks cs (passesLimit (ps ++ (productionOf base ks cs ∷ []))) a b c refl h
+  judged-adds es next crowded cs a b c h = let z : _≡_ {A = ℕ} 0 1 = cc in absurd (omega arith)
   judged-adds es next (EventsJudged.refuse n) cs a b c h = let z : _≡_ {A = ℕ} 0 1 = cc in absurd (omega arith)
 
   right-adds : (es : List WrittenEvent) (next : ℕ) (r : CallsRead) → leftSide l ≡ events es next → rightSide l next ≡ r

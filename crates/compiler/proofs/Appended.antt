@@ -6,7 +6,7 @@ use mathlib.Core.List.{List, [], _∷_, _++_, append-nil, append-assoc, map-appe
 use lib.ListN.{length, length-append}
 use Rattle.model.specs.Events.{WrittenEvent}
 use Rattle.model.specs.Judging.{judged}
-use Rattle.model.specs.Compiling.{EventsJudged, keep, keepOneMore, judgedNext, judgedAll}
+use Rattle.model.specs.Compiling.{EventsJudged, keep, crowded, keepOneMore, crowdedWith, judgedNext, judgedAll}
 use Rattle.model.specs.Tables.{Call, Production}
 use Rattle.model.specs.declared.scan.Span.{Span}
 use Rattle.model.specs.declared.events.KeptEvent.{KeptEvent}
@@ -67,11 +67,18 @@ pub record KeptFirst (e : WrittenEvent) (es : List WrittenEvent) (ks : List Kept
 kept-rest : (e : WrittenEvent) (es : List WrittenEvent) (ks : List KeptEvent) (k : KeptEvent) (r : EventsJudged)
     → judged e ≡ Judged.Keep k → judgedAll es ≡ r → keepOneMore k r ≡ keep ks → KeptFirst e es ks
 kept-rest e es ks k (keep os) p q h = record { first = k; others = os; is = p; are = q; all = cc }
+kept-rest e es ks k crowded p q h = let z : _≡_ {A = ℕ} 0 1 = cc in absurd (omega arith)
 kept-rest e es ks k (EventsJudged.refuse n) p q h = let z : _≡_ {A = ℕ} 0 1 = cc in absurd (omega arith)
+
+not-kept : (r : EventsJudged) (ks : List KeptEvent) → crowdedWith r ≡ keep ks → ⊥
+not-kept (keep os) ks h = let z : _≡_ {A = ℕ} 0 1 = cc in omega arith
+not-kept crowded ks h = let z : _≡_ {A = ℕ} 0 1 = cc in omega arith
+not-kept (EventsJudged.refuse n) ks h = let z : _≡_ {A = ℕ} 0 1 = cc in omega arith
 
 kept-judged : (e : WrittenEvent) (es : List WrittenEvent) (ks : List KeptEvent) (j : Judged) → judged e ≡ j
     → judgedNext j (judgedAll es) ≡ keep ks → KeptFirst e es ks
 kept-judged e es ks (Judged.Keep k) p h = kept-rest e es ks k (judgedAll es) p refl h
+kept-judged e es ks Judged.Crowded p h = absurd (not-kept (judgedAll es) ks h)
 kept-judged e es ks (Judged.Refuse n) p h = let z : _≡_ {A = ℕ} 0 1 = cc in absurd (omega arith)
 
 kept-first : (e : WrittenEvent) (es : List WrittenEvent) (ks : List KeptEvent) → judgedAll (e ∷ es) ≡ keep ks → KeptFirst e es ks

@@ -20,6 +20,7 @@ use Rattle.tables.specs.Writing.{putEvent, putCall, putParameter, putProduction
 -- event k, where it is kept
 abbrev pub putJudged : List ℕ → ℕ → Judged → List ℕ
 putJudged out k (Judged.Keep e) = putEvent out k e
+putJudged out k Judged.Crowded = out
 putJudged out k (Judged.Refuse n) = out
 
 -- events from k on, judged one by one

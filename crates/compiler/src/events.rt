@@ -34,6 +34,7 @@ pub fn write_judged(j: Judged, out: &mut [u8], k: usize)
 {
     match j {
         Judged::Keep(e) => put_event(out, k, e),
+        Judged::Crowded => (),
         Judged::Refuse(_) => (),
     }
 }

@@ -13,6 +13,9 @@ put-event-requires c κs = search needs
 enum-told : tie.Need-enum-told
 enum-told c = search needs
 
+enum-told-2 : tie.Need-enum-told-2
+enum-told-2 c = search needs
+
 same-length : tie.Need-same-length
 same-length c = search needs
 
@@ -22,5 +25,8 @@ returns c = c .before .before .put-event .ensures ∙ ap (putJudged (c .before .
 returns-2 : tie.Need-returns-2
 returns-2 c = ap (putJudged (c .before .before .before .args .out .now) (c .before .before .before .args .k)) (sym (c .enum-told .given .1))
 
+returns-3 : tie.Need-returns-3
+returns-3 c = ap (putJudged (c .before .before .before .args .out .now) (c .before .before .before .args .k)) (sym (c .enum-told2 .given .1))
+
 pub write-judged-spec : {M : Type 1} → statement M
-write-judged-spec = tie.close (tie.spec enum-known-j put-event-requires enum-told same-length returns returns-2)
+write-judged-spec = tie.close (tie.spec enum-known-j put-event-requires enum-told enum-told-2 same-length returns returns-2 returns-3)
