@@ -14,9 +14,10 @@ use Rattle.model.specs.Lines.{lineEnd, lineAt, isBlankLine, directiveAt}
 use Rattle.model.specs.Events.{Written, WrittenEvent, event, key}
 use Rattle.model.specs.Calls.{WrittenCall}
 use Rattle.model.specs.Names.{typeNamed}
-use Rattle.model.specs.Judging.{eventNumber, judgedAs, judgedMark, judgedWritten, judged}
+use Rattle.model.specs.Named.{isCrowded}
+use Rattle.model.specs.Judging.{eventNumber, keptEvent, judgedAs, judgedMark, judgedWritten, judged}
 use Rattle.model.specs.Tables.{Production}
-use Rattle.model.specs.Compiling.{passesLimit, LineRead, broken, production, lineRead, EventsJudged, keep, keepOneMore, judgedNext, judgedAll, callOf, LineOutcome, add, withinLimits, lineJudged, lineFrom, lineOutcome, Outcome, accepted, refused, goOn, afterLine, afterDirective, linesFrom, linesOf, afterBytes, compiled}
+use Rattle.model.specs.Compiling.{passesLimit, LineRead, broken, production, lineRead, EventsJudged, keep, crowded, keepOneMore, judgedNext, judgedAll, callOf, LineOutcome, add, withinLimits, lineJudged, lineFrom, lineOutcome, Outcome, accepted, refused, goOn, afterLine, afterDirective, linesFrom, linesOf, afterBytes, compiled}
 use Rattle.claims.specs.Compiling.{RefusedNumbered}
 use Rattle.model.specs.declared.names.TypeName.{TypeName}
 use Rattle.model.specs.declared.scan.KeyMark.{KeyMark}
@@ -27,6 +28,7 @@ use Rattle.model.specs.declared.answers.Judged.{Judged}
 
 abbrev EventNumbered : Judged → Type 0
 EventNumbered (Judged.Keep e) = Unit {0}
+EventNumbered Judged.Crowded = Unit {0}
 EventNumbered (Judged.Refuse n) = 0 < n
 
 number-above : (n : ℕ) → eqb n 0 ≡ false → 0 < n
@@ -36,15 +38,19 @@ as-numbered : (w : Written) (ty : TypeName) → EventNumbered (judgedAs w ty)
 as-numbered w TypeName.Unknown = omega arith
 as-numbered w (TypeName.Known ty) = go (eqb (eventNumber w ty) 0) refl
   where
+    kept : (b : Bool) → EventNumbered (cond b Judged.Crowded (Judged.Keep (keptEvent w ty)))
+    kept true = tt
+    kept false = tt
+
     go : (b : Bool) → eqb (eventNumber w ty) 0 ≡ b → EventNumbered (judgedAs w (TypeName.Known ty))
-    go true q = rw q tt
+    go true q = rw q (kept (isCrowded (w .list)))
     go false q = rw q (number-above (eventNumber w ty) q)
 
 mark-numbered : (m : KeyMark) (byte : ℕ) → EventNumbered (judgedMark m byte)
 mark-numbered KeyMark.Plain byte = tt
 mark-numbered KeyMark.Control byte = tt
 mark-numbered KeyMark.Quoted byte = tt
-mark-numbered KeyMark.Meta byte = omega arith
+mark-numbered KeyMark.Meta byte = tt
 
 event-numbered : (e : WrittenEvent) → EventNumbered (judged e)
 unfolding judged judgedWritten
@@ -53,11 +59,16 @@ event-numbered (key k) = mark-numbered (k .mark) (k .byte)
 
 abbrev EventsNumbered : EventsJudged → Type 0
 EventsNumbered (keep es) = Unit {0}
+EventsNumbered crowded = Unit {0}
 EventsNumbered (EventsJudged.refuse n) = 0 < n
 
 next-numbered : (j : Judged) (rest : EventsJudged) → EventNumbered j → EventsNumbered rest → EventsNumbered (judgedNext j rest)
 next-numbered (Judged.Keep e) (keep es) f g = tt
+next-numbered (Judged.Keep e) crowded f g = tt
 next-numbered (Judged.Keep e) (EventsJudged.refuse n) f g = g
+next-numbered Judged.Crowded (keep es) f g = tt
+next-numbered Judged.Crowded crowded f g = tt
+next-numbered Judged.Crowded (EventsJudged.refuse n) f g = g
 next-numbered (Judged.Refuse n) rest f g = f
 
 events-numbered : (es : List WrittenEvent) → EventsNumbered (judgedAll es)
@@ -80,6 +91,7 @@ judged-numbered :
     → LineNumbered (lineJudged before base j cs)
 judged-numbered before base (keep es) cs f =
     limit-numbered (passesLimit (before ++ (record { events = es; calls = map (callOf base) cs } ∷ []))) _
+judged-numbered before base crowded cs f = omega arith
 judged-numbered before base (EventsJudged.refuse n) cs f = f
 
 read-numbered : (before : List Production) (base : ℕ) (r : LineRead) → LineNumbered (lineFrom before base r)

@@ -1,13 +1,15 @@
 -- The ways that a call can go.
-use Prim.Native.Nat.{ℕ, _≤_}
+use Prim.Native.Nat.{ℕ, _-_, _≤_, _<_}
 use native.Mathlib.Omega.{arith}
-use borrow.Author.Tests.{eqb-true, eqb-false, eq-eqb, ne-eqb}
+use borrow.Author.Tests.{eqb-true, eq-eqb, ne-eqb, ltb-true, ltb-false}
 use mathlib.Core.Path.{_≡_, refl, sym, ap, _∙_}
 use mathlib.Core.Bool.{Bool, true, false, cond, not, _||_, false≢true}
-use mathlib.Core.List.{List}
+use mathlib.Core.List.{List, []}
 use lib.Dec.{eqb, ltb}
-use lib.ListN.{length}
+use lib.ListN.{length, take, drop, length-drop, drop-of-length-le}
+use lib.Seq.{take-all}
 use Rattle.model.specs.Setting.{Setting}
+use Rattle.model.specs.Resolving.{isBadMap}
 use Rattle.model.specs.Lists.{any}
 use Rattle.model.specs.Numbers.{MatchChecks, badRecord, matchOrder, recordNumber}
 use Rattle.model.specs.Records.{isBadRecord, recordRead, eventOf, codeOf}
@@ -16,7 +18,7 @@ use Rattle.model.specs.Demand.{MatchCall}
 use Rattle.model.specs.declared.events.Event.{Event}
 use Rattle.model.specs.declared.answers.RecordRead.{RecordRead}
 use Rattle.model.specs.declared.answers.Matched.{Matched}
-use Rattle.keyboard.specs.Maps.{mapNumbers}
+use Rattle.keyboard.specs.Maps.{mapNumbers, modifierEntriesIn}
 use Rattle.keyboard.proofs.Maps.{map-bytes, map-numbers}
 use Rattle.machine.specs.Kept.{passesContext, stepNumber, act, hear, dropEvent, stepped}
 use Rattle.machine.proofs.Checks.{NoneApplies, none-applies}
@@ -34,15 +36,16 @@ use Rattle.fields.proofs.TableFacts.{table-facts}
 -- ---- The order of the checks
 
 -- the number of the checks that do not look at the record
-abbrev early : Bool → Bool → Bool → ℕ
-early short table state = matchOrder (earlyChecks short table state)
+abbrev early : Bool → Bool → Bool → Bool → ℕ
+early short modifiers table state = matchOrder (earlyChecks short modifiers table state)
 
-early-same : (a b c bad full : Bool) → (early a b c ≡ 0 → ⊥)
-    → matchOrder (record { short = a; tableBroken = b; stateBroken = c; recordBad = bad; full = full }) ≡ early a b c
-early-same true b c bad full n = refl
-early-same false true c bad full n = refl
-early-same false false true bad full n = refl
-early-same false false false bad full n = absurd (n refl)
+early-same : (a m b c bad full : Bool) → (early a m b c ≡ 0 → ⊥)
+    → matchOrder (record { short = a; modifiersBad = m; tableBroken = b; stateBroken = c; recordBad = bad; full = full }) ≡ early a m b c
+early-same true m b c bad full n = refl
+early-same false true b c bad full n = refl
+early-same false false true c bad full n = refl
+early-same false false false true bad full n = refl
+early-same false false false false bad full n = absurd (n refl)
 
 one≢ : (n : ℕ) → 1 ≤ n → n ≡ 0 → ⊥
 one≢ n h e = omega arith
@@ -53,13 +56,26 @@ not-is false q = absurd (false≢true (sym q))
 
 -- ---- Buffers
 
--- a map has 496 numbers exactly where its bytes are 1984
-pub map-long : (bytes : List ℕ) → eqb (length bytes) 1984 ≡ eqb (length (mapNumbers bytes)) 496
-map-long bytes = go (eqb (length bytes) 1984) refl
+-- a keyboard map has 496 numbers exactly where there are its 1984 bytes
+pub map-long : (bytes : List ℕ) → ltb (length bytes) 1984 ≡ not (eqb (length (mapNumbers bytes)) 496)
+map-long bytes = go (ltb (length bytes) 1984) refl
   where
-    go : (b : Bool) → eqb (length bytes) 1984 ≡ b → b ≡ eqb (length (mapNumbers bytes)) 496
-    go true q = sym (eq-eqb (length (mapNumbers bytes)) 496 (map-numbers bytes (eqb-true (length bytes) 1984 q)))
-    go false q = sym (ne-eqb (length (mapNumbers bytes)) 496 (λ h. eqb-false (length bytes) 1984 q (map-bytes bytes h)))
+    go : (b : Bool) → ltb (length bytes) 1984 ≡ b → b ≡ not (eqb (length (mapNumbers bytes)) 496)
+    go true q =
+        let n = ltb-true (length bytes) 1984 q in
+        rw (ne-eqb (length (mapNumbers bytes)) 496 (λ h. omega (arith, map-bytes bytes h)))
+    go false q = rw (eq-eqb (length (mapNumbers bytes)) 496 (map-numbers bytes (ltb-false (length bytes) 1984 q)))
+
+-- all bytes that follow the keyboard map
+pub rest-is : (bytes : List ℕ) → take (length bytes - 1984) (drop 1984 bytes) ≡ modifierEntriesIn bytes
+rest-is bytes = take-all (length bytes - 1984) (drop 1984 bytes) (rw length-drop (omega arith))
+
+-- fewer bytes have no modifier map
+pub no-modifiers : (bytes : List ℕ) → length bytes < 1984 → true ≡ isBadMap (modifierEntriesIn bytes)
+unfolding isBadMap
+no-modifiers bytes h =
+    let d : drop 1984 bytes ≡ [] = drop-of-length-le bytes {i = 1984} (omega arith) in
+    rw d
 
 or-right : (a b : Bool) → (a || b) ≡ false → b ≡ false
 or-right true b e = absurd (false≢true (sym e))
@@ -77,19 +93,22 @@ module _ (table : List ℕ) (setting : Setting) (s : State) (c : MatchCall) wher
   abbrev t-short : Bool
   t-short = tooShort table (setting .keyboard)
 
+  abbrev t-modifiers : Bool
+  t-modifiers = isBadMap (setting .modifiers)
+
   abbrev first-number : ℕ
-  first-number = early t-short (not (whole table)) (not (wholeState s))
+  first-number = early t-short t-modifiers (not (whole table)) (not (wholeState s))
 
   refused-answer : (n : ℕ) → matchNumber table setting s c ≡ n → (n ≡ 0 → ⊥) → callAnswer table setting s c ≡ refusedWith n s
   unfolding callAnswer
   refused-answer n e d = rw (e, ne-eqb n 0 d)
 
-  -- 1, 12 or 14
+  -- 1, 18, 12 or 14
   pub refused-first : (n : ℕ) → n ≡ first-number → (n ≡ 0 → ⊥) → refusedWith n s ≡ callAnswer table setting s c
   unfolding matchNumber
   refused-first n e d =
       sym (refused-answer n
-      (early-same t-short (not (whole table)) (not (wholeState s)) (isBadRecord (c .bytes) (c .order))
+      (early-same t-short t-modifiers (not (whole table)) (not (wholeState s)) (isBadRecord (c .bytes) (c .order))
       (passesContext (decode table) setting (keptOf s) (recordRead (c .bytes) (c .order))) (λ z. d (e ∙ z))
       ∙ sym e) d)
 
@@ -97,23 +116,25 @@ module _ (table : List ℕ) (setting : Setting) (s : State) (c : MatchCall) wher
   pub record Past : Type 0 where
     pub isWhole : whole table ≡ true
     pub mapLong : length (setting .keyboard) ≡ 496
+    pub modifiersGood : isBadMap (setting .modifiers) ≡ false
     pub stateWhole : wholeState s ≡ true
     pub notShort : tooShort table (setting .keyboard) ≡ false
 
-  past-by : (checks : MatchChecks) → NoneApplies checks → checks .short ≡ t-short → checks .tableBroken ≡ not (whole table)
-      → checks .stateBroken ≡ not (wholeState s) → Past
-  past-by checks p a b d =
+  past-by : (checks : MatchChecks) → NoneApplies checks → checks .short ≡ t-short → checks .modifiersBad ≡ t-modifiers
+      → checks .tableBroken ≡ not (whole table) → checks .stateBroken ≡ not (wholeState s) → Past
+  past-by checks p a m b d =
       record {
         isWhole = not-is (whole table) (sym b ∙ p .tableBroken);
         mapLong = mapped table (setting .keyboard) (sym a ∙ p .short);
+        modifiersGood = sym m ∙ p .modifiersBad;
         stateWhole = not-is (wholeState s) (sym d ∙ p .stateBroken);
         notShort = sym a ∙ p .short;
       }
 
   pub past : first-number ≡ 0 → Past
   past e =
-      let checks : MatchChecks = earlyChecks t-short (not (whole table)) (not (wholeState s)) in
-      past-by checks (none-applies checks (eq-eqb first-number 0 e)) refl refl refl
+      let checks : MatchChecks = earlyChecks t-short t-modifiers (not (whole table)) (not (wholeState s)) in
+      past-by checks (none-applies checks (eq-eqb first-number 0 e)) refl refl refl refl
 
   -- where none applies at all
   pub past-all : matchNumber table setting s c ≡ 0 → Past × (isBadRecord (c .bytes) (c .order) ≡ false)
@@ -121,21 +142,23 @@ module _ (table : List ℕ) (setting : Setting) (s : State) (c : MatchCall) wher
   past-all e =
       let checks : MatchChecks = record {
         short = t-short;
+        modifiersBad = t-modifiers;
         tableBroken = not (whole table);
         stateBroken = not (wholeState s);
         recordBad = isBadRecord (c .bytes) (c .order);
         full = passesContext (decode table) setting (keptOf s) (recordRead (c .bytes) (c .order));
       } in
       let p = none-applies checks (eq-eqb (matchOrder checks) 0 e) in
-      (past-by checks p refl refl refl, p .recordBad)
+      (past-by checks p refl refl refl refl, p .recordBad)
 
   module _ (p : Past) where
     number-is : (bad : Bool) → isBadRecord (c .bytes) (c .order) ≡ bad
-        → matchNumber table setting s c ≡ matchOrder (record { short = false; tableBroken = false; stateBroken = false; recordBad = bad; full = false })
+        → matchNumber table setting s c ≡ matchOrder (record { short = false; modifiersBad = false; tableBroken = false; stateBroken = false; recordBad = bad; full = false })
     unfolding matchNumber
     number-is bad e =
         rw (
           p .notShort,
+          p .modifiersGood,
           p .isWhole,
           p .stateWhole,
           e,
@@ -147,6 +170,7 @@ module _ (table : List ℕ) (setting : Setting) (s : State) (c : MatchCall) wher
     step-number e =
         rw (
           eq-eqb (length (setting .keyboard)) 496 (p .mapLong),
+          p .modifiersGood,
           e,
           never-full (decode table) (table-facts table (p .isWhole) .limit) setting (keptOf s) (recordRead (c .bytes) (c .order)),
         )

@@ -22,6 +22,7 @@ use Rattle.states.specs.declared.State.{State}
 use Rattle.matcher.specs.declared.Answer.{Answer}
 use Rattle.walk.specs.declared.Passed.{Passed}
 use Rattle.states.specs.State.{zeroEvent, slotsOf, putSlot, eventsBytes, inSlots, keptOf, stateWith, stateKeeping}
+use Rattle.resolving.specs.Gathering.{MapsReady}
 use Rattle.follow.specs.Follow.{WalkReady}
 use Rattle.walk.specs.Walk.{passed, passedIn}
 use Rattle.matcher.specs.Moves.{answerWith, answerIn, restarted}
@@ -170,9 +171,9 @@ module _ (s : State) (f : StateFacts s) (x : Event) where
       more-in = ranges-more (take (s .kept) (slotsOf (s .events))) x (kept-ranges s f) r
 
   -- what a walk along the grown stretch may rely on
-  pub more-ready : (l map bytes : List ℕ) → whole l ≡ true → length map ≡ 496 → EventRanges x → bytes ≡ grownBytes
-      → WalkReady l map bytes (s .kept + 1)
-  more-ready l map bytes w m r e =
+  pub more-ready : (l maps bytes : List ℕ) → whole l ≡ true → MapsReady maps → EventRanges x → bytes ≡ grownBytes
+      → WalkReady l maps bytes (s .kept + 1)
+  more-ready l maps bytes w m r e =
       let n = f .few in
       record {
         isWhole = w;

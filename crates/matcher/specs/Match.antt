@@ -8,6 +8,7 @@ use lib.ListN.{length}
 use Rattle.model.specs.Limits.{mapLength}
 use Rattle.model.specs.Numbers.{MatchChecks, matchOrder}
 use Rattle.model.specs.Setting.{Setting}
+use Rattle.model.specs.Resolving.{isBadMap}
 use Rattle.model.specs.Tables.{Table}
 use Rattle.model.specs.Records.{isBadRecord, recordRead}
 use Rattle.model.specs.Matching.{readingOf}
@@ -33,16 +34,24 @@ unfoldable pub tooShort : (table map : List ℕ) → Bool
 tooShort table map = ltb (length table) tableLength || not (eqb (length map) mapLength)
 
 -- the checks that come before the record is looked at
-abbrev pub earlyChecks : (short tableBroken stateBroken : Bool) → MatchChecks
-earlyChecks short tableBroken stateBroken =
-    record { short = short; tableBroken = tableBroken; stateBroken = stateBroken; recordBad = false; full = false }
+abbrev pub earlyChecks : (short modifiersBad tableBroken stateBroken : Bool) → MatchChecks
+earlyChecks short modifiersBad tableBroken stateBroken =
+    record {
+      short = short;
+      modifiersBad = modifiersBad;
+      tableBroken = tableBroken;
+      stateBroken = stateBroken;
+      recordBad = false;
+      full = false;
+    }
 
--- "Matcher: 1, 12, 14, 13, 15."
+-- "Matcher: 1, 12, 14, 13, 15."; R-1: "18 .. after 1"
 unfoldable pub matchNumber : (table : List ℕ) → Setting → State → MatchCall → ℕ
 matchNumber table setting s c =
     matchOrder (
     record {
       short = tooShort table (setting .keyboard);
+      modifiersBad = isBadMap (setting .modifiers);
       tableBroken = not (whole table);
       stateBroken = not (wholeState s);
       recordBad = isBadRecord (c .bytes) (c .order);

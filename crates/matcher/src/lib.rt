@@ -2,8 +2,9 @@
 ghost use mathlib.Core.Path.{_≡_};
 ghost use mathlib.Core.Bool.{not};
 ghost use Rattle.model.specs.Numbers.{matchOrder, recordNumber, matchedNumber, matchedSelection};
+ghost use Rattle.model.specs.Resolving.{isBadMap};
 ghost use Rattle.tables.specs.Whole.{whole};
-ghost use Rattle.keyboard.specs.Maps.{mapNumbers, lentSetting};
+ghost use Rattle.keyboard.specs.Maps.{mapNumbers, modifierEntriesIn, lentSetting};
 ghost use Rattle.states.specs.State.{wholeState};
 ghost use Rattle.matcher.specs.Match.{tooShort, earlyChecks, refusedWith, matchCall, matchNumber, matchSelection, matchAnswer};
 
@@ -19,22 +20,27 @@ pub struct Answer {
     pub state: State,
 }
 
-// How many bytes a keyboard map has: 496 numbers of four bytes each.
+// How many bytes a keyboard map has: 496 numbers of four bytes each. The modifier map follows it.
 const MAP_BYTES: usize = 1984;
 
 // The numbers that refuse a call whatever its record.
 const SHORT_BUFFER: u8 = 1;
+
+const BAD_MODIFIER_MAP: u8 = 18;
 
 const TABLE_NOT_WHOLE: u8 = 12;
 
 const STATE_NOT_WHOLE: u8 = 14;
 
 // The first of them that applies, 0 where none does.
-fn first_of(short: bool, table_broken: bool, state_broken: bool) -> u8
-    ensures { λ r. ⌜ r ≡ matchOrder (earlyChecks short «table_broken» «state_broken») ⌝ }
+fn first_of(short: bool, modifiers_bad: bool, table_broken: bool, state_broken: bool) -> u8
+    ensures { λ r. ⌜ r ≡ matchOrder (earlyChecks short «modifiers_bad» «table_broken» «state_broken») ⌝ }
 {
     if short {
         return SHORT_BUFFER;
+    }
+    if modifiers_bad {
+        return BAD_MODIFIER_MAP;
     }
     if table_broken {
         return TABLE_NOT_WHOLE;
@@ -48,14 +54,25 @@ fn first_of(short: bool, table_broken: bool, state_broken: bool) -> u8
 fn too_short(table: &[u8], maps: &[u8]) -> bool
     ensures { λ r. ⌜ r ≡ tooShort (now (table .entry)) (mapNumbers (now (maps .entry))) ⌝ }
 {
-    (table.len() < tables::TABLE_LENGTH) | (map.len() != MAP_BYTES)
+    (table.len() < tables::TABLE_LENGTH) | (maps.len() < MAP_BYTES)
+}
+
+// Whether what follows the keyboard map is no modifier map.
+fn modifiers_bad(maps: &[u8]) -> bool
+    ensures { λ r. ⌜ r ≡ isBadMap (modifierEntriesIn (now (maps .entry))) ⌝ }
+{
+    if maps.len() < MAP_BYTES {
+        return true;
+    }
+    resolving::is_bad_map(&maps[MAP_BYTES..])
 }
 
 fn refusal(table: &[u8], maps: &[u8], state: State) -> u8
-    ensures { λ r. ⌜ r ≡ matchOrder (earlyChecks (tooShort (now (table .entry)) (mapNumbers (now (maps .entry)))) (not (whole (now (table .entry)))) (not (wholeState state))) ⌝ }
+    ensures { λ r. ⌜ r ≡ matchOrder (earlyChecks (tooShort (now (table .entry)) (mapNumbers (now (maps .entry)))) (isBadMap (modifierEntriesIn (now (maps .entry)))) (not (whole (now (table .entry)))) (not (wholeState state))) ⌝ }
 {
     first_of(
-        too_short(table, map),
+        too_short(table, maps),
+        modifiers_bad(maps),
         !table_check::whole(table),
         !states::state_whole(state),
     )

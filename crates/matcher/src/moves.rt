@@ -8,7 +8,8 @@ ghost use Rattle.machine.specs.Kept.{hear};
 ghost use Rattle.tables.specs.Reading.{decode};
 ghost use Rattle.tables.specs.Whole.{whole};
 ghost use Rattle.states.specs.State.{slotsOf, inSlots, wholeState, keptOf};
-ghost use Rattle.keyboard.specs.Maps.{mapNumbers, lentSetting};
+ghost use Rattle.keyboard.specs.Maps.{lentSetting};
+ghost use Rattle.resolving.specs.Gathering.{MapsReady};
 ghost use Rattle.follow.specs.Follow.{WalkReady};
 ghost use Rattle.matcher.specs.Moves.{answerWith, restarted};
 ghost use Rattle.matcher.specs.Match.{stepAnswer};
@@ -97,7 +98,7 @@ fn restart(
 
 // An event that is heard.
 pub fn heard(table: &[u8], maps: &[u8], limit: u32, state: State, x: Event) -> Answer
-    requires { ⌜ ((whole (now table) ≡ true) × (length (mapNumbers (now maps)) ≡ 496)) × ((wholeState state ≡ true) × EventRanges x) ⌝ }
+    requires { ⌜ ((whole (now table) ≡ true) × MapsReady (now maps)) × ((wholeState state ≡ true) × EventRanges x) ⌝ }
     ensures { λ r. ⌜ r ≡ stepAnswer (hear (decode (now (table .entry))) (lentSetting (now (maps .entry)) limit) (keptOf state) x) ⌝ }
 {
     let kept = state.kept;

@@ -75,7 +75,7 @@ heard-requires c κs =
     let q : MatchCall = (record { bytes = now (a .«record»); order = a .order }) in
     let p = past (now (a .table)) (lentSetting (now (a .maps)) (a .limit)) (a .state) q (sym (c .before .before .before .before .before .before .before .refusal .ensures) ∙ c .before .before .before .before .before .before .if1 .left) in
     let g = c .before .before .before .read .given in
-    ((p .isWhole, p .mapLong), (p .stateWhole, read-ranges (now (a .«record»)) (a .order) (g .0 .0) (sym (c .before .before .before .before .before .read-record .ensures .0) ∙ g .1)))
+    ((p .isWhole, record { mapped = p .mapLong; good = p .modifiersGood }), (p .stateWhole, read-ranges (now (a .«record»)) (a .order) (g .0 .0) (sym (c .before .before .before .before .before .read-record .ensures .0) ∙ g .1)))
 
 returns-4 : tie.Need-returns-4
 returns-4 c =

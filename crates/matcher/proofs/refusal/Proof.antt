@@ -8,12 +8,15 @@ use borrow.Author.Needs.{needs}
 use Rattle.matcher.proofs.refusal.Statement.{statement}
 use Rattle.matcher.proofs.refusal.Tie as tie
 
-number-of-checks : {a b c d e f : Bool} → a ≡ b → c ≡ d → e ≡ f
-    → _≡_ {A = ℕ} (matchOrder (earlyChecks a (not c) (not e))) (matchOrder (earlyChecks b (not d) (not f)))
-number-of-checks p q r = λ i. matchOrder (earlyChecks (p i) (not (q i)) (not (r i)))
+number-of-checks : {a b m n c d e f : Bool} → a ≡ b → m ≡ n → c ≡ d → e ≡ f
+    → _≡_ {A = ℕ} (matchOrder (earlyChecks a m (not c) (not e))) (matchOrder (earlyChecks b n (not d) (not f)))
+number-of-checks p m q r = λ i. matchOrder (earlyChecks (p i) (m i) (not (q i)) (not (r i)))
 
 too-short-requires : tie.Need-too-short-requires
 too-short-requires c κs = search needs
+
+modifiers-bad-requires : tie.Need-modifiers-bad-requires
+modifiers-bad-requires c κs = search needs
 
 whole-requires : tie.Need-whole-requires
 whole-requires c κs = search needs
@@ -27,8 +30,8 @@ first-of-requires c κs = search needs
 returns : tie.Need-returns
 returns c =
     c .first-of .ensures
-    ∙ number-of-checks (c .before .before .before .too-short .ensures) (c .before .before .whole .ensures) (c .before .state-whole .ensures)
+    ∙ number-of-checks (c .before .before .before .before .too-short .ensures) (c .before .before .before .modifiers-bad .ensures) (c .before .before .whole .ensures) (c .before .state-whole .ensures)
 
 pub refusal-spec : {M : Type 1} → statement M
 refusal-spec =
-    tie.close (tie.spec too-short-requires whole-requires state-whole-requires first-of-requires returns)
+    tie.close (tie.spec too-short-requires modifiers-bad-requires whole-requires state-whole-requires first-of-requires returns)

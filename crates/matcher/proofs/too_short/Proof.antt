@@ -1,6 +1,6 @@
 -- `matcher::too_short` meets its contract.
 use mathlib.Core.Path.{ap}
-use mathlib.Core.Bool.{Bool, not, _||_}
+use mathlib.Core.Bool.{Bool, _||_}
 use denote.Ref.{now}
 use lib.Dec.{ltb}
 use lib.ListN.{length}
@@ -14,7 +14,7 @@ returns : tie.Need-returns
 unfolding tooShort
 returns c =
     let a = c .args in
-    ap (λ (b : Bool). ltb (length (now (a .table))) tableLength || not b) (map-long (now (a .maps)))
+    ap (λ (b : Bool). ltb (length (now (a .table))) tableLength || b) (map-long (now (a .maps)))
 
 pub too-short-spec : {M : Type 1} → statement M
 too-short-spec = tie.close (tie.spec returns)

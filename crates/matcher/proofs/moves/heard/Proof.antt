@@ -6,7 +6,7 @@ use denote.Ref.{now}
 use Rattle.tables.specs.Reading.{decode}
 use Rattle.walk.specs.declared.Passed.{Passed}
 use Rattle.follow.specs.Follow.{WalkReady}
-use Rattle.keyboard.specs.Maps.{mapNumbers, lentSetting}
+use Rattle.keyboard.specs.Maps.{lentSetting}
 use Rattle.states.proofs.StateLaws.{state-facts}
 use Rattle.matcher.proofs.MoveLaws.{more-ready, heard-no, heard-yes}
 use borrow.Author.Needs.{needs}
@@ -15,11 +15,11 @@ use Rattle.matcher.proofs.moves.heard.Tie as tie
 
 -- the slots with the event are ready to be walked along
 ready : (c : tie.After-put-event)
-    → WalkReady (now (c .before .before .before .before .before .args .table)) (mapNumbers (now (c .before .before .before .before .before .args .maps))) (c .put-event .last .0) (c .before .before .before .before .before .args .state .kept + 1)
+    → WalkReady (now (c .before .before .before .before .before .args .table)) (now (c .before .before .before .before .before .args .maps)) (c .put-event .last .0) (c .before .before .before .before .before .args .state .kept + 1)
 ready c =
     let a = c .before .before .before .before .before .args in
     let p = c .before .before .before .before .before .pre in
-    more-ready (a .state) (state-facts (a .state) (p .1 .0)) (a .x) (now (a .table)) (mapNumbers (now (a .maps))) (c .put-event .last .0) (p .0 .0) (p .0 .1) (p .1 .1) (c .put-event .ensures)
+    more-ready (a .state) (state-facts (a .state) (p .1 .0)) (a .x) (now (a .table)) (now (a .maps)) (c .put-event .last .0) (p .0 .0) (p .0 .1) (p .1 .1) (c .put-event .ensures)
 
 slice-aggregate-put-event : tie.Need-slice-aggregate-put-event
 slice-aggregate-put-event c = sym (state-facts (c .before .before .before .before .args .state) (c .before .before .before .before .pre .1 .0) .long)
