@@ -11,6 +11,7 @@ use lib.ListN.{length, drop}
 use lib.Seq.{drop-at}
 use Rattle.model.specs.Numbers.{matchedNumber, matchedSelection}
 use Rattle.model.specs.Setting.{Setting}
+use Rattle.model.specs.Resolving.{isBadMap}
 use Rattle.model.specs.Tables.{Table}
 use Rattle.model.specs.Records.{codeOf, eventOf, isBadRecord, recordRead}
 use Rattle.model.specs.Matching.{readingOf}
@@ -83,6 +84,7 @@ number-not table setting s c w =
     order-not
     (record {
       short = tooShort table (setting .keyboard);
+      modifiersBad = isBadMap (setting .modifiers);
       tableBroken = not (whole table);
       stateBroken = not (wholeState s);
       recordBad = isBadRecord (c .bytes) (c .order);
@@ -151,9 +153,9 @@ module _ (table : List ℕ) (setting : Setting) (l : List ℕ) (c : MatchCall) w
     long-past true e = past-stored (holds e)
     long-past false e = ap (drop 200) (left-kept table setting l c h (refused-number e))
 
-    not-whole : tooShort table (setting .keyboard) ≡ false → whole table ≡ true → wholeState (load l) ≡ false → matched ≡ Matched.Refused 14
+    not-whole : tooShort table (setting .keyboard) ≡ false → isBadMap (setting .modifiers) ≡ false → whole table ≡ true → wholeState (load l) ≡ false → matched ≡ Matched.Refused 14
     unfolding callAnswer matchNumber
-    not-whole a b d = answer-is table setting l c h ∙ rw (a, b, d)
+    not-whole a m b d = answer-is table setting l c h ∙ rw (a, m, b, d)
 
   -- ---- Any state
 
@@ -189,7 +191,7 @@ every-call table setting state bytes order =
       accepted = λ z. accepted-by table setting state c (ltb (length state) 200) refl z;
       dropped = λ d. dropped-by table setting state c (ltb (length state) 200) refl d;
       refused = λ f. (selects-none (matchedOn table setting state bytes order) f, refused-by table setting state c (ltb (length state) 200) refl f);
-      notWhole = λ h a b d. not-whole table setting state c h a b d;
+      notWhole = λ h a m b d. not-whole table setting state c h a m b d;
       only = λ z. only-by table setting state c (ltb (length state) 200) (wholeState (load state)) refl refl z;
       past = past-by-length table setting state c (ltb (length state) 200) refl;
     }

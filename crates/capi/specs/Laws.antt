@@ -8,6 +8,7 @@ use mathlib.Core.Option.{none}
 use lib.ListN.{length, getD, drop}
 use Rattle.model.specs.Numbers.{stateNotWhole, matchedNumber, matchedSelection}
 use Rattle.model.specs.Setting.{Setting}
+use Rattle.model.specs.Resolving.{isBadMap}
 use Rattle.model.specs.declared.answers.Matched.{Matched}
 use Rattle.tables.specs.Whole.{whole}
 use Rattle.states.specs.declared.State.{State}
@@ -40,10 +41,10 @@ pub record CallLaws (table : List ℕ) (setting : Setting) (state bytes : List �
       (matchedNumber (matchedOn table setting state bytes order) ≡ 0 → ⊥)
       → (matchedSelection (matchedOn table setting state bytes order) ≡ none)
       × (stateLeft table setting state bytes order ≡ state)
-  -- 14 where no lent buffer is short, the table is whole, and the bytes load to no whole state
+  -- 14 where neither 1 nor 18 nor 12 is given, and the bytes load to no whole state
   pub notWhole :
-      stateLength ≤ length state → tooShort table (setting .keyboard) ≡ false → whole table ≡ true
-      → wholeState (load state) ≡ false → matchedOn table setting state bytes order ≡ Matched.Refused stateNotWhole
+      stateLength ≤ length state → tooShort table (setting .keyboard) ≡ false → isBadMap (setting .modifiers) ≡ false
+      → whole table ≡ true → wholeState (load state) ≡ false → matchedOn table setting state bytes order ≡ Matched.Refused stateNotWhole
   -- and only for bytes that load to no whole state
   pub only :
       matchedNumber (matchedOn table setting state bytes order) ≡ stateNotWhole → wholeState (load state) ≡ false

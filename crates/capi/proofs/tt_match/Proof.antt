@@ -8,7 +8,7 @@ use Rattle.capi.proofs.tt_match.Tie as tie
 returns : tie.Need-returns
 returns c =
     let a = c .before .before .before .before .before .args in
-    match-short (a .table .now) (lentSetting (a .map .now) (a .time)) (a .state .now) (a .«record» .now) (a .order) (c .if1 .taken)
+    match-short (a .table .now) (lentSetting (a .maps .now) (a .time)) (a .state .now) (a .«record» .now) (a .order) (c .if1 .taken)
 
 load-state-requires : tie.Need-load-state-requires
 load-state-requires c κs = search needs
@@ -22,7 +22,7 @@ keep-requires c κs = search needs
 matched-word-requires : tie.Need-matched-word-requires
 matched-word-requires c κs =
     let a = c .before .before .before .before .before .before .before .before .before .before .before .before .before .args in
-    matched-few (a .table .now) (lentSetting (a .map .now) (a .time)) (c .before .before .before .before .before .before .load-state .result) (a .«record» .now) (a .order) (c .before .before .before .before .before .match-event .result) (c .before .before .before .before .before .match-event .ensures .0)
+    matched-few (a .table .now) (lentSetting (a .maps .now) (a .time)) (c .before .before .before .before .before .before .load-state .result) (a .«record» .now) (a .order) (c .before .before .before .before .before .match-event .result) (c .before .before .before .before .before .match-event .ensures .0)
 
 same-length : tie.Need-same-length
 same-length c = search needs
@@ -30,7 +30,7 @@ same-length c = search needs
 returns-2 : tie.Need-returns-2
 returns-2 c =
     let a = c .before .before .before .before .before .before .before .before .before .before .before .before .before .before .args in
-    match-long (a .table .now) (lentSetting (a .map .now) (a .time)) (a .state .now) (a .«record» .now) (a .order) (c .before .before .before .before .before .before .before .before .before .if1 .left)
+    match-long (a .table .now) (lentSetting (a .maps .now) (a .time)) (a .state .now) (a .«record» .now) (a .order) (c .before .before .before .before .before .before .before .before .before .if1 .left)
     (c .before .before .before .before .before .before .before .load-state .result) (c .before .before .before .before .before .before .before .load-state .ensures) (c .before .before .before .before .before .before .match-event .result) (c .before .before .before .before .before .before .match-event .ensures .0)
     _ _ (c .matched-word .ensures) (c .before .before .before .keep .ensures)
 
