@@ -13,7 +13,7 @@ use Rattle.list_masks.specs.declared.lists.ListSummary.{ListSummary}
 use Rattle.judge.specs.declared.events.CountSummary.{CountSummary}
 use Rattle.judge.specs.declared.events.DetailSummary.{DetailSummary}
 use Rattle.list_masks.specs.Summary.{setOf, clearOf, clauseOf}
-use Rattle.judge.specs.Judged.{colonMisplaced, keptOf, keptParts, partsNumber, judgedParts}
+use Rattle.judge.specs.Judged.{colonMisplaced, eventOfParts, keptParts, partsNumber, judgedParts}
 
 module _ (s : ListSummary) (ty : EventType) (c : CountSummary) (d : DetailSummary) where
   module _ (set clear : ℕ) (clause : Bool)
@@ -35,12 +35,12 @@ module _ (s : ListSummary) (ty : EventType) (c : CountSummary) (d : DetailSummar
         eventOrder (s .unknown || d .unknown) (s .«too_large» || c .bad || d .«too_large») (c .unbuilt || d .unbuilt)
         (s .written && not (t i)) (k i) (f i)
 
-    parts-kept : keptOf s ty c d set clear clause ≡ keptParts s ty c d
+    parts-kept : eventOfParts s ty c d set clear clause ≡ keptParts s ty c d
     unfolding keptParts
-    parts-kept = λ i. keptOf s ty c d (p i) (q i) (clause-kept i)
+    parts-kept = λ i. eventOfParts s ty c d (p i) (q i) (clause-kept i)
 
     pub keeps : (n : ℕ) (k : KeptEvent) → n ≡ partsNumber s ty c d → n ≡ 0 → s .over ≡ false
-        → k ≡ keptOf s ty c d set clear clause → Judged.Keep k ≡ judgedParts s ty c d
+        → k ≡ eventOfParts s ty c d set clear clause → Judged.Keep k ≡ judgedParts s ty c d
     unfolding judgedParts
     keeps n k e z o f =
         let a = eq-eqb (partsNumber s ty c d) 0 (sym e ∙ z) in

@@ -27,7 +27,7 @@ use Rattle.judge.specs.declared.events.DetailSummary.{DetailSummary}
 use Rattle.keysym_list.specs.Rising.{Rising}
 use Rattle.list_masks.specs.Summary.{listedForms, summaryOf, setOf, clearOf, clauseOf, formsOf}
 use Rattle.list_masks.proofs.Forms.{same-forms, bit-forms}
-use Rattle.judge.specs.Judged.{countSummary, detailSummary, hasStandardBits, colonMisplaced, partsNamed, keptOf, keptParts, partsNumber, judgedParts}
+use Rattle.judge.specs.Judged.{countSummary, detailSummary, hasStandardBits, colonMisplaced, partsNamed, eventOfParts, keptParts, partsNumber, judgedParts}
 
 module _ (list : ModifierList) where
   set-bit : (k : ℕ) → k < 13 → bit k (mask (listsSet list)) ≡ listsSet list k
@@ -105,7 +105,7 @@ module _ (w : Written) (ty : EventType) where
   detailed = detailSummary ty (w .detail)
 
   kept-same : Rising (keysymsOf (w .list)) → keptParts (summaryOf (w .list)) ty counted detailed ≡ keptEvent w ty
-  unfolding keptParts keptOf keptEvent keptClear summaryOf countSummary detailSummary
+  unfolding keptParts eventOfParts keptEvent keptClear summaryOf countSummary detailSummary
   kept-same g =
       let n = named-same (w .list) ty g in
       λ i.

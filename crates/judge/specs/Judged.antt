@@ -67,8 +67,8 @@ abbrev pub partsNamed : ListSummary → EventType → Bool
 partsNamed s ty = not (eqb (formsOf (s .names) (ty .added)) 0) || not (eqb (s .keysyms .first) 0)
 
 -- the event that is kept, with the bits that are asked set and clear as if there were no such name
-unfoldable pub keptOf : ListSummary → EventType → CountSummary → DetailSummary → (set clear : ℕ) → (clause : Bool) → KeptEvent
-keptOf s ty c d set clear clause =
+unfoldable pub eventOfParts : ListSummary → EventType → CountSummary → DetailSummary → (set clear : ℕ) → (clause : Bool) → KeptEvent
+eventOfParts s ty c d set clear clause =
     record {
       code = ty .code;
       set = set;
@@ -84,7 +84,7 @@ keptOf s ty c d set clear clause =
 
 unfoldable pub keptParts : ListSummary → EventType → CountSummary → DetailSummary → KeptEvent
 keptParts s ty c d =
-    keptOf s ty c d (setOf (s .set) (ty .added)) (clearOf s) (clauseOf (ty .added) (setOf (s .set) (ty .added)))
+    eventOfParts s ty c d (setOf (s .set) (ty .added)) (clearOf s) (clauseOf (ty .added) (setOf (s .set) (ty .added)))
 
 unfoldable pub partsNumber : ListSummary → EventType → CountSummary → DetailSummary → ℕ
 partsNumber s ty c d =

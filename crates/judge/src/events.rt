@@ -23,7 +23,7 @@ ghost use Rattle.model.specs.Names.{shiftBit};
 ghost use Rattle.model.specs.Judging.{isOneDigit, keyPressOf, judgedMark};
 ghost use Rattle.model.specs.declared.names.Added.{Added};
 ghost use Rattle.list_masks.specs.Summary.{SummaryIn, AddedIn};
-ghost use Rattle.judge.specs.Judged.{countOf, countSummary, readSummary, detailSummary, hasStandardBits, colonMisplaced, keptOf, judgedParts};
+ghost use Rattle.judge.specs.Judged.{countOf, countSummary, readSummary, detailSummary, hasStandardBits, colonMisplaced, eventOfParts, judgedParts};
 
 // A written count, or none.
 pub struct CountSummary {
@@ -273,7 +273,7 @@ fn kept_event(
     clear: u16,
     clause: bool,
 ) -> KeptEvent
-    ensures { λ r. ⌜ r ≡ keptOf s ty c d set clear clause ⌝ }
+    ensures { λ r. ⌜ r ≡ eventOfParts s ty c d set clear clause ⌝ }
 {
     let added = ty.added;
     let kept = d.kept;

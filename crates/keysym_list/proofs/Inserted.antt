@@ -9,7 +9,7 @@ use lib.ListN.{length, getD}
 use borrow.Author.Tests.{lt-ltb, le-ltb, ltb-true, ltb-false, eqb-true, eqb-false, ne-eqb}
 use Rattle.model.specs.Lists.{isEmpty}
 use Rattle.model.specs.Named.{listedMark, markedKeysym, isListed, markListed, withKeysym}
-use Rattle.keysym_list.specs.Slots.{passed}
+use Rattle.keysym_list.specs.Slots.{slotPassed}
 use Rattle.keysym_list.specs.Rising.{MarkedIn, Above, Rising}
 
 abbrev pub rest : List ℕ → List ℕ
@@ -64,11 +64,11 @@ module _ (tilde : Bool) where
   handed-on s (t ∷ ts) r = rw (ne-eqb s 0 (λ e. omega (arith, r .0 .0)), lt-ltb (markedKeysym s) (markedKeysym t) (r .1))
 
   pub record AtHead (c : ℕ) (ss : List ℕ) : Type 0 where
-    pub slot : passed tilde (getD ss 0 0) c .slot ≡ getD (carriedInto c ss) 0 0
-    pub on : rest (carriedInto c ss) ≡ carriedInto (passed tilde (getD ss 0 0) c .carried) (rest ss)
+    pub slot : slotPassed tilde (getD ss 0 0) c .slot ≡ getD (carriedInto c ss) 0 0
+    pub on : rest (carriedInto c ss) ≡ carriedInto (slotPassed tilde (getD ss 0 0) c .carried) (rest ss)
 
   pub at-head : (c : ℕ) (ss : List ℕ) → Rising ss → AtHead c ss
-  unfolding passed
+  unfolding slotPassed
   at-head c [] r = go (eqb c 0) refl
     where
       go : (b : Bool) → eqb c 0 ≡ b → AtHead c []

@@ -10,7 +10,7 @@ use borrow.Author.Tests.{lt-ltb}
 use Rattle.model.specs.Lists.{isEmpty}
 use Rattle.model.specs.Named.{listedMark, withKeysym, keysymsIn}
 use Rattle.keysym_list.specs.declared.Slots.{Slots}
-use Rattle.keysym_list.specs.Slots.{slotsOf, passed, withOneMore, SlotsIn}
+use Rattle.keysym_list.specs.Slots.{keysymSlots, slotPassed, withOneMore, SlotsIn}
 use Rattle.keysym_list.specs.Rising.{Rising}
 use Rattle.keysym_list.proofs.Inserted.{rest, rising-rest, carriedInto, with-carried, AtHead, at-head, some-more}
 
@@ -28,7 +28,7 @@ headsOf ss =
       over = not (isEmpty (rest (rest (rest (rest ss)))));
     }
 
-heads-same : (ss : List ℕ) → slotsOf ss ≡ headsOf ss
+heads-same : (ss : List ℕ) → keysymSlots ss ≡ headsOf ss
 heads-same [] = refl
 heads-same (a ∷ []) = refl
 heads-same (a ∷ b ∷ []) = refl
@@ -39,16 +39,16 @@ heads-same (a ∷ b ∷ c ∷ d ∷ e ∷ ss) =
     (lt-ltb 4 (length (a ∷ b ∷ c ∷ d ∷ e ∷ ss)) (omega arith))
 
 pub slots-more : (tilde : Bool) (v : ℕ) (ss : List ℕ) → Rising ss → v < 0x20000000
-    → withOneMore (keysymsIn ss) (slotsOf ss .over) tilde v ≡ slotsOf (withKeysym tilde v ss)
+    → withOneMore (keysymsIn ss) (keysymSlots ss .over) tilde v ≡ keysymSlots (withKeysym tilde v ss)
 unfolding withOneMore
 slots-more tilde v ss r h =
     let c0 : ℕ = v + listedMark tilde in
     let s1 : List ℕ = rest ss in
     let s2 : List ℕ = rest s1 in
     let s3 : List ℕ = rest s2 in
-    let c1 : ℕ = passed tilde (getD ss 0 0) c0 .carried in
-    let c2 : ℕ = passed tilde (getD s1 0 0) c1 .carried in
-    let c3 : ℕ = passed tilde (getD s2 0 0) c2 .carried in
+    let c1 : ℕ = slotPassed tilde (getD ss 0 0) c0 .carried in
+    let c2 : ℕ = slotPassed tilde (getD s1 0 0) c1 .carried in
+    let c3 : ℕ = slotPassed tilde (getD s2 0 0) c2 .carried in
     let r1 : Rising s1 = rising-rest ss r in
     let r2 : Rising s2 = rising-rest s1 r1 in
     let h0 : AtHead tilde c0 ss = at-head tilde c0 ss r in
@@ -63,14 +63,14 @@ slots-more tilde v ss r h =
     let second = h1 .slot ∙ sym (ap (λ (l : List ℕ). getD l 0 0) t1) in
     let third = h2 .slot ∙ sym (ap (λ (l : List ℕ). getD l 0 0) t2) in
     let fourth = h3 .slot ∙ sym (ap (λ (l : List ℕ). getD l 0 0) t3) in
-    let over = some-more tilde (passed tilde (getD s3 0 0) c3 .carried) (rest s3) ∙ sym (ap (λ (l : List ℕ). not (isEmpty l)) t4) in
+    let over = some-more tilde (slotPassed tilde (getD s3 0 0) c3 .carried) (rest s3) ∙ sym (ap (λ (l : List ℕ). not (isEmpty l)) t4) in
     ap (λ (x : Slots). withOneMore (x .keysyms) (x .over) tilde v) (heads-same ss)
     ∙ (λ i.
     record {
       keysyms = record { first = first i; second = second i; third = third i; fourth = fourth i };
       over = over i;
     })
-    ∙ sym (ap slotsOf (with-carried tilde v ss h) ∙ heads-same (carriedInto tilde c0 ss))
+    ∙ sym (ap keysymSlots (with-carried tilde v ss h) ∙ heads-same (carriedInto tilde c0 ss))
 
 -- a rising list's numbers are in range
 nth-in : (ss : List ℕ) → Rising ss → getD ss 0 0 < 0x80000000

@@ -9,29 +9,29 @@ use Rattle.model.specs.Limits.{keysymsOfEventLimit}
 use Rattle.model.specs.Named.{listedMark, markedKeysym, markListed, keysymsIn}
 use Rattle.model.specs.declared.events.Keysyms.{Keysyms}
 use Rattle.keysym_list.specs.declared.Slots.{Slots}
-use Rattle.keysym_list.specs.declared.Passed.{Passed}
+use Rattle.keysym_list.specs.declared.Carried.{Carried}
 
 -- of a list of keysyms with marks
-abbrev pub slotsOf : List ℕ → Slots
-slotsOf ss = record { keysyms = keysymsIn ss; over = ltb keysymsOfEventLimit (length ss) }
+abbrev pub keysymSlots : List ℕ → Slots
+keysymSlots ss = record { keysyms = keysymsIn ss; over = ltb keysymsOfEventLimit (length ss) }
 
-abbrev pub leaves : (slot carried : ℕ) → Passed
-leaves slot carried = record { slot = slot; carried = carried }
+abbrev pub handsOn : (slot carried : ℕ) → Carried
+handsOn slot carried = record { slot = slot; carried = carried }
 
 -- a slot that a carried number passes: it keeps what has the lower keysym and hands the other on; 0 is nothing
-unfoldable pub passed : (tilde : Bool) (slot carried : ℕ) → Passed
-passed tilde slot carried =
-    cond (eqb carried 0) (leaves slot 0)
-    (cond (eqb slot 0) (leaves carried 0)
-    (cond (ltb (markedKeysym carried) (markedKeysym slot)) (leaves carried slot)
-    (cond (eqb (markedKeysym carried) (markedKeysym slot)) (leaves (markListed tilde slot) 0) (leaves slot carried))))
+unfoldable pub slotPassed : (tilde : Bool) (slot carried : ℕ) → Carried
+slotPassed tilde slot carried =
+    cond (eqb carried 0) (handsOn slot 0)
+    (cond (eqb slot 0) (handsOn carried 0)
+    (cond (ltb (markedKeysym carried) (markedKeysym slot)) (handsOn carried slot)
+    (cond (eqb (markedKeysym carried) (markedKeysym slot)) (handsOn (markListed tilde slot) 0) (handsOn slot carried))))
 
 unfoldable pub withOneMore : Keysyms → (over tilde : Bool) → ℕ → Slots
 withOneMore k over tilde v =
-    let first = passed tilde (k .first) (v + listedMark tilde) in
-    let second = passed tilde (k .second) (first .carried) in
-    let third = passed tilde (k .third) (second .carried) in
-    let fourth = passed tilde (k .fourth) (third .carried) in
+    let first = slotPassed tilde (k .first) (v + listedMark tilde) in
+    let second = slotPassed tilde (k .second) (first .carried) in
+    let third = slotPassed tilde (k .third) (second .carried) in
+    let fourth = slotPassed tilde (k .fourth) (third .carried) in
     record {
       keysyms = record { first = first .slot; second = second .slot; third = third .slot; fourth = fourth .slot };
       over = over || not (eqb (fourth .carried) 0);

@@ -4,7 +4,7 @@ use model::events::Keysyms;
 ghost use mathlib.Core.Path.{_≡_};
 ghost use Prim.Native.Nat.{_<_};
 ghost use Rattle.model.specs.Named.{listedMark, markListed, noKeysyms};
-ghost use Rattle.keysym_list.specs.Slots.{passed, withOneMore, SlotsIn};
+ghost use Rattle.keysym_list.specs.Slots.{slotPassed, withOneMore, SlotsIn};
 
 // The first four keysyms, and whether there are more.
 pub struct Slots {
@@ -12,8 +12,8 @@ pub struct Slots {
     pub over: bool,
 }
 
-// A slot that a carried number passed, and what is carried on; 0 for nothing.
-struct Passed {
+// A slot that a carried number has passed, and what is carried on; 0 for nothing.
+struct Carried {
     slot: u32,
     carried: u32,
 }
@@ -52,15 +52,15 @@ fn mark_listed(tilde: bool, slot: u32) -> u32
     slot + 0x20000000
 }
 
-fn pass(tilde: bool, slot: u32, carried: u32) -> Passed
+fn pass(tilde: bool, slot: u32, carried: u32) -> Carried
     requires { ⌜ slot < 0x80000000 ⌝ }
-    ensures { λ r. ⌜ r ≡ passed tilde slot carried ⌝ }
+    ensures { λ r. ⌜ r ≡ slotPassed tilde slot carried ⌝ }
 {
     if carried == 0 {
-        return Passed { slot, carried: 0 };
+        return Carried { slot, carried: 0 };
     }
     if slot == 0 {
-        return Passed {
+        return Carried {
             slot: carried,
             carried: 0,
         };
@@ -68,18 +68,18 @@ fn pass(tilde: bool, slot: u32, carried: u32) -> Passed
     let new = carried % 0x20000000;
     let old = slot % 0x20000000;
     if new < old {
-        return Passed {
+        return Carried {
             slot: carried,
             carried: slot,
         };
     }
     if new == old {
-        return Passed {
+        return Carried {
             slot: mark_listed(tilde, slot),
             carried: 0,
         };
     }
-    Passed { slot, carried }
+    Carried { slot, carried }
 }
 
 pub fn with_one_more(k: Keysyms, over: bool, tilde: bool, v: u32) -> Slots

@@ -18,7 +18,7 @@ use Rattle.model.specs.declared.names.DetailRead.{DetailRead}
 use Rattle.modifiers.specs.Setting.{withBit}
 use Rattle.modifiers.proofs.Masks.{same-mask, mask-below}
 use Rattle.modifiers.proofs.Setting.{with-bit-mask}
-use Rattle.keysym_list.specs.Slots.{slotsOf, withOneMore}
+use Rattle.keysym_list.specs.Slots.{keysymSlots, withOneMore}
 use Rattle.keysym_list.specs.Rising.{Rising}
 use Rattle.keysym_list.proofs.Same.{slots-more, slots-in}
 use Rattle.list_masks.specs.declared.lists.ListSummary.{ListSummary}
@@ -157,7 +157,7 @@ module _ (bang colon : Bool) (ms : List Modifier) where
       → withReading tilde r ≡ withKeysymRead (summaryOf (listed bang colon ms)) tilde r
   unfolding summaryOf listsSet listsClear listedForms keysymsOf isCrowded withKeysymRead
   reading tilde (DetailRead.Value v) g h =
-      let e : slotsOf (withKeysym tilde v past) ≡ withOneMore (keysymsIn past) over tilde v = sym (slots-more tilde v past g h) in
+      let e : keysymSlots (withKeysym tilde v past) ≡ withOneMore (keysymsIn past) over tilde v = sym (slots-more tilde v past g h) in
       λ i.
       summary true bang colon (known i) (within i) (same false i) (same true i) (same-names i) (e i .keysyms) (e i .over)
   reading tilde DetailRead.Unknown g h =

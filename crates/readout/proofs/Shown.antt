@@ -28,7 +28,8 @@ use Rattle.model.specs.Events.{keysymFrom, nameFrom, modifierNameAt, modifierFr
 use Rattle.model.specs.Calls.{parameterEnd, quotedFrom, unquotedFrom, parameterFrom, parameterAt, parametersFrom, parametersPast, parametersAt, callNameFrom, callFrom, callAt, callsFrom, rightSide}
 use Rattle.model.specs.Modifiers.{mask, listsSet, listsClear, asksSet, asksClear, setMask, clearMask, keepsClause, stateMeets, noStateMeets}
 use Rattle.model.specs.Counts.{releasePress, pressRelease, elementsAt, elementsOf, expanded, sequence}
-use Rattle.model.specs.Judging.{detailOf, keptDetail, keptEvent, eventNumber, judgedWritten, judged}
+use Rattle.model.specs.Named.{keysymsFrom, keysymsOf, isCrowded}
+use Rattle.model.specs.Judging.{detailOf, keptDetail, isImpossible, keptEvent, eventNumber, judgedWritten, judged}
 use Rattle.model.specs.Compiling.{productionPasses, totalsPass, passesLimit, lineRead, judgedAll, lineOutcome, linesFrom, linesOf, compiled}
 
 -- ---- What a text's first call holds
@@ -53,7 +54,7 @@ written x = ofOutcome (x .text) (compiled (x .text))
 
 -- every text of the table, compiled
 computed : map written readExamples ≡ map (λ (x : ReadExample). some x) readExamples
-unfolding isAllowed firstBadByte isBlank isDigit isLetter belongs runEnd skip lineEnd lineAt isBlankLine directiveOf directiveAt modifierEntries modifierNamed protocolEntries synonymEntries abbreviationEntries typeEntries typeNamed digitValue digitsFrom numberIn keysymEntries keyDetail buttonEntries motionEntries modeEntries requestEntries smallNumber nameOrNumber detailNamed keysymFrom nameFrom modifierNameAt modifierFrom modifierAt modifiersFrom leadColon leadFrom leadAt listOf typeFrom typeRun typeName typeAt countClose countPlus countRun countDigits countFrom countAt plainEventAt markedKey keyAt keysFrom keySequenceAt eventsFrom eventsAt afterEventFrom afterEventAt leftFrom leftSide parameterEnd quotedFrom unquotedFrom parameterFrom parameterAt parametersFrom parametersPast parametersAt callNameFrom callFrom callAt callsFrom rightSide mask listsSet listsClear asksSet asksClear setMask clearMask keepsClause stateMeets noStateMeets releasePress pressRelease elementsAt elementsOf expanded sequence detailOf keptDetail keptEvent eventNumber judgedWritten judged productionPasses totalsPass passesLimit lineRead judgedAll lineOutcome linesFrom linesOf compiled readExamples askedCall askedProduction
+unfolding isAllowed firstBadByte isBlank isDigit isLetter belongs runEnd skip lineEnd lineAt isBlankLine directiveOf directiveAt modifierEntries modifierNamed protocolEntries synonymEntries abbreviationEntries typeEntries typeNamed digitValue digitsFrom numberIn keysymEntries keyDetail buttonEntries motionEntries modeEntries requestEntries smallNumber nameOrNumber detailNamed keysymFrom nameFrom modifierNameAt modifierFrom modifierAt modifiersFrom leadColon leadFrom leadAt listOf typeFrom typeRun typeName typeAt countClose countPlus countRun countDigits countFrom countAt plainEventAt markedKey keyAt keysFrom keySequenceAt eventsFrom eventsAt afterEventFrom afterEventAt leftFrom leftSide parameterEnd quotedFrom unquotedFrom parameterFrom parameterAt parametersFrom parametersPast parametersAt callNameFrom callFrom callAt callsFrom rightSide mask listsSet listsClear asksSet asksClear setMask clearMask keepsClause stateMeets noStateMeets releasePress pressRelease elementsAt elementsOf expanded sequence detailOf keptDetail isImpossible keptEvent eventNumber judgedWritten judged productionPasses totalsPass passesLimit lineRead judgedAll lineOutcome linesFrom linesOf compiled readExamples askedCall askedProduction keysymsFrom keysymsOf isCrowded
 computed = refl
 
 -- ---- A text whose first call is as the example says is read so

@@ -20,7 +20,7 @@ use Rattle.modifiers.proofs.Below.{every-at, none-at, all-bits, any-bits, both-
 use Rattle.roundtrip.proofs.Lists.{choose, or-left, or-right, any-append, any-those, any-same, any-at}
 use Rattle.roundtrip.proofs.Names.{wellNamed, well-named, bits-named, ordered, form-named, typeOf}
 use Rattle.roundtrip.proofs.Kept.{clearTest, wholeClear, KeptWell}
-use Rattle.roundtrip.proofs.Written.{modifierOf, bitsOf, formOf, keysymOf, namesOf, modifiersOf, listOf}
+use Rattle.roundtrip.proofs.Written.{modifierOf, bitsOf, formModifier, keysymModifier, nameModifiers, writtenModifiers, listOf}
 use Rattle.roundtrip.proofs.Named.{no-name, has-names}
 
 module _ (e : KeptEvent) where
@@ -41,7 +41,7 @@ module _ (e : KeptEvent) where
       (any-modifiers t k h f ks (both-right (wellNamed j) (all wellNamed ks) w))
 
   -- names list no bit
-  names-none : (t : Bool) (k : ℕ) → any (lists t k) (namesOf e) ≡ false
+  names-none : (t : Bool) (k : ℕ) → any (lists t k) (nameModifiers e) ≡ false
   names-none t k = no-name (lists t k) e (form-none t) (keysym-none t)
     where
       named : (u : Bool) (j : ℕ) → j < 8 → (x : Bool) → lists u k (Modifier.name x (longName (j % 4))) ≡ false
@@ -50,18 +50,18 @@ module _ (e : KeptEvent) where
       named false j h true = refl
       named false j h false = ap (isBit k) (form-named j h .stands)
 
-      form-none : (u : Bool) (j : ℕ) → j < 8 → lists u k (formOf j) ≡ false
+      form-none : (u : Bool) (j : ℕ) → j < 8 → lists u k (formModifier j) ≡ false
       form-none u j h = named u j h (leb 4 j)
 
-      keysym-none : (u : Bool) (s : ℕ) (x : Bool) → lists u k (keysymOf s x) ≡ false
+      keysym-none : (u : Bool) (s : ℕ) (x : Bool) → lists u k (keysymModifier s x) ≡ false
       keysym-none true s x = refl
       keysym-none false s x = refl
 
   any-listed : (t : Bool) (k : ℕ) (h : ℕ → Bool) → k < 13
       → ((j : ℕ) → wellNamed j ≡ true → lists t k (modifierOf e j) ≡ (h j && eqb j k))
-      → any (lists t k) (modifiersOf e) ≡ (isWrittenBit e k && h k)
+      → any (lists t k) (writtenModifiers e) ≡ (isWrittenBit e k && h k)
   any-listed t k h l f =
-      any-append (lists t k) (map (modifierOf e) (bitsOf e)) (namesOf e)
+      any-append (lists t k) (map (modifierOf e) (bitsOf e)) (nameModifiers e)
       ∙ ap (λ (b : Bool). any (lists t k) (map (modifierOf e) (bitsOf e)) || b) (names-none t k)
       ∙ or-false (any (lists t k) (map (modifierOf e) (bitsOf e)))
       ∙ any-modifiers t k h f (bitsOf e) (bits-named e)

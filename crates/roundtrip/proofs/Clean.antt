@@ -21,7 +21,7 @@ use Rattle.grammar.proofs.Places.{nor-right}
 use Rattle.roundtrip.specs.Contents.{CallBytes, Content}
 use Rattle.roundtrip.proofs.Lists.{either, choose, all-append, all-mono}
 use Rattle.roundtrip.proofs.Names.{typeOf, WellTyped, well-typed}
-use Rattle.roundtrip.proofs.Written.{modifiersOf}
+use Rattle.roundtrip.proofs.Written.{writtenModifiers}
 use Rattle.roundtrip.proofs.ListText.{modifierText, list-texts, wellWritten, list-written}
 use Rattle.roundtrip.proofs.Numbers.{one-digit}
 use Rattle.roundtrip.proofs.Details.{detail-reads}
@@ -112,7 +112,7 @@ module _ (e : KeptEvent) where
   unfolding listText
   list-clean =
       ap (λ (ts : List (List ℕ)). all clean (joinedBy (bytes " ") ts)) (sym (list-texts e))
-      ∙ joined-clean (bytes " ") (each modifierText (modifiersOf e)) refl (each-clean (modifiersOf e) (list-written e))
+      ∙ joined-clean (bytes " ") (each modifierText (writtenModifiers e)) refl (each-clean (writtenModifiers e) (list-written e))
 
   modifiers-clean : all clean (modifiersText e) ≡ true
   unfolding modifiersText

@@ -17,7 +17,7 @@ use Rattle.model.specs.declared.events.Detail.{Detail}
 use Rattle.model.specs.declared.events.KeptEvent.{KeptEvent}
 use Rattle.modifiers.proofs.Below.{both-left, both-right}
 use Rattle.grammar.specs.Bytes.{blank, letter, letterOrDigit, isDigitSign, keysymByte, detailByte}
-use Rattle.grammar.specs.Tokens.{beginsWith, Word, Optional, isSome}
+use Rattle.grammar.specs.Tokens.{beginsWith, Optional, isSome}
 use Rattle.grammar.specs.Modifiers.{isLoneName, parts, DerivesModifierName, DerivesModifier, DerivesModifiers, DerivesModifierList}
 use Rattle.grammar.specs.Events as Grammar
 use Rattle.grammar.proofs.Places.{kind-not}
@@ -26,7 +26,7 @@ use Rattle.roundtrip.proofs.Names.{typeOf, WellTyped, well-typed}
 use Rattle.roundtrip.proofs.Numbers.{OneDigit, one-digit}
 use Rattle.roundtrip.proofs.Details.{detail-reads}
 use Rattle.roundtrip.proofs.Kept.{DetailFits, KeptWell}
-use Rattle.roundtrip.proofs.Written.{modifiersOf, listOf, countOf, writtenOf}
+use Rattle.roundtrip.proofs.Written.{writtenModifiers, listOf, countOf, writtenOf}
 use Rattle.roundtrip.proofs.ListText.{modifierText, list-texts, wellWritten, list-written}
 use Rattle.roundtrip.proofs.Joined.{behind, joined-behind, joined-none, run, word, no-blanks, sign-after, sign}
 
@@ -238,7 +238,7 @@ module _ (r : List ℕ) where
 module _ (e : KeptEvent) where
   module _ (r : List ℕ) where
     modifiers-text : modifiersText e ++ (code "<" ∷ r)
-        ≡ cond (writesBang e) (bytes "!") [] ++ (cond (e .colon) (bytes ":") [] ++ allTexts r (modifiersOf e))
+        ≡ cond (writesBang e) (bytes "!") [] ++ (cond (e .colon) (bytes ":") [] ++ allTexts r (writtenModifiers e))
     unfolding modifiersText listText
     modifiers-text =
         append-assoc (cond (writesBang e) (bytes "!") [])
@@ -250,10 +250,10 @@ module _ (e : KeptEvent) where
     derive-list : DerivesModifierList (modifiersText e ++ (code "<" ∷ r)) (listOf e) (code "<" ∷ r)
     unfolding listOf
     derive-list =
-        let p : beginsWith starts (allTexts r (modifiersOf e)) ≡ true = texts-start r (modifiersOf e) (list-written e) in
+        let p : beginsWith starts (allTexts r (writtenModifiers e)) ≡ true = texts-start r (writtenModifiers e) (list-written e) in
         rw modifiers-text
-        (DerivesModifierList.listed (derive-bang r (writesBang e) (e .colon) (allTexts r (modifiersOf e)) p) (derive-colon r (e .colon) (allTexts r (modifiersOf e)) p)
-        (derive-all r (modifiersOf e) (list-written e)) (none-alone r (modifiersOf e) (list-written e)))
+        (DerivesModifierList.listed (derive-bang r (writesBang e) (e .colon) (allTexts r (writtenModifiers e)) p) (derive-colon r (e .colon) (allTexts r (writtenModifiers e)) p)
+        (derive-all r (writtenModifiers e) (list-written e)) (none-alone r (writtenModifiers e) (list-written e)))
 
   -- ---- The event
 

@@ -31,7 +31,7 @@ use Rattle.roundtrip.proofs.Names.{wellNamed, well-named, bits-named, f
 use Rattle.roundtrip.proofs.Numbers.{OneDigit, one-digit}
 use Rattle.roundtrip.proofs.Details.{Reads, detail-reads}
 use Rattle.roundtrip.proofs.Kept.{DetailFits, KeptWell}
-use Rattle.roundtrip.proofs.Written.{modifierOf, bitsOf, formOrder, formOf, keysymsOf, slots, namesOf, listOf, countOf, writtenOf}
+use Rattle.roundtrip.proofs.Written.{modifierOf, bitsOf, formOrder, formModifier, keysymModifiers, slots, nameModifiers, listOf, countOf, writtenOf}
 use Rattle.roundtrip.proofs.Named.{no-name, keysym-reads, names-same, keysyms-same, not-crowded}
 use Rattle.roundtrip.proofs.Asked.{set-mask, clear-mask, clear-same, bang-same, buttons-asked, listed-cared}
 
@@ -47,7 +47,7 @@ module _ (e : KeptEvent) where
   list-known : anyUnknown (listOf e) ≡ false
   unfolding listOf
   list-known =
-      any-append modifierUnknown (map (modifierOf e) (bitsOf e)) (namesOf e)
+      any-append modifierUnknown (map (modifierOf e) (bitsOf e)) (nameModifiers e)
       ∙ ap₂ _||_ (known (bitsOf e) (bits-named e))
       (no-name modifierUnknown e (λ k h. ap nameUnknown (form-named k h .stands)) (λ s t. ap readUnknown (keysym-reads s)))
 
@@ -58,7 +58,7 @@ module _ (e : KeptEvent) where
   list-in-range : anyTooLarge (listOf e) ≡ false
   unfolding listOf
   list-in-range =
-      any-append modifierTooLarge (map (modifierOf e) (bitsOf e)) (namesOf e)
+      any-append modifierTooLarge (map (modifierOf e) (bitsOf e)) (nameModifiers e)
       ∙ ap₂ _||_ (in-range (bitsOf e)) (no-name modifierTooLarge e (λ k h. refl) (λ s t. ap readTooLarge (keysym-reads s)))
 
 -- ---- Details
@@ -108,7 +108,7 @@ abbrev written : ℕ → ℕ → Bool → List ℕ
 written set clear brief = those (λ k. cond brief (bit k set) (bit k set || bit k clear)) writingOrder
 
 abbrev namesWritten : ℕ → Keysyms → List Modifier
-namesWritten names keysyms = map formOf (those (λ k. bit k names) formOrder) ++ keysymsOf (slots keysyms)
+namesWritten names keysyms = map formModifier (those (λ k. bit k names) formOrder) ++ keysymModifiers (slots keysyms)
 
 module _ (e : KeptEvent) (w : KeptWell e) where
   bare-bang : takesModifiers (e .code) ≡ false → writesBang e ≡ false

@@ -11,11 +11,10 @@ use borrow.Author.Tests.{eqb-true, eqb-false, ltb-true, le-ltb, ne-eqb, eq-eqb}
 use Rattle.model.specs.Lists.{any, all, those, isEmpty}
 use Rattle.model.specs.Limits.{keysymLimit}
 use Rattle.model.specs.Details.{keyDetail}
-use Rattle.model.specs.Names.{modifierNamed}
 use Rattle.model.specs.Modifiers.{bit, bitIf, sumBits}
 use Rattle.model.specs.Named as Rules
-use Rattle.model.specs.Named.{formBits, isForm, listsForm, addsForm, namesMask, listedMark, markedKeysym, isListed, markListed, withKeysym, withModifier, withRead, keysymsFrom, isCrowded, keysymsIn, hasNames, keepsNames}
-use Rattle.model.specs.Events.{Modifier, name, keysym}
+use Rattle.model.specs.Named.{formBits, isForm, listsForm, addsForm, namesMask, listedMark, markedKeysym, isListed, withKeysym, withModifier, withRead, keysymsFrom, isCrowded, keysymsIn, hasNames, keepsNames}
+use Rattle.model.specs.Events.{Modifier, keysym}
 use Rattle.model.specs.Canonical.{hexadecimal}
 use Rattle.model.specs.declared.events.Keysyms.{Keysyms}
 use Rattle.model.specs.declared.events.KeptEvent.{KeptEvent}
@@ -23,36 +22,36 @@ use Rattle.model.specs.declared.names.Added.{Added}
 use Rattle.model.specs.declared.names.DetailRead.{DetailRead}
 use Rattle.keysym_list.specs.Rising.{MarkedIn, Above, Rising, KeysymsIn}
 use Rattle.modifiers.proofs.Below.{every, every-at, both-left, both-right}
-use Rattle.roundtrip.proofs.Lists.{choose, any-append, any-same, any-those, any-at}
+use Rattle.roundtrip.proofs.Lists.{any-append, any-those, any-at}
 use Rattle.roundtrip.proofs.Numbers.{hexadecimal-reads}
-use Rattle.roundtrip.proofs.Written.{modifierOf, bitsOf, formOrder, formOf, formsOf, keysymOf, bothForms, keysymsOf, slots, namesOf, modifiersOf, listOf}
+use Rattle.roundtrip.proofs.Written.{modifierOf, bitsOf, formOrder, formModifier, writtenForms, keysymModifier, bothForms, keysymModifiers, slots, nameModifiers, writtenModifiers, listOf}
 use Rattle.roundtrip.proofs.Names.{wellNamed, well-named, bits-named, FormNamed, form-named, form-ordered, forms-below, typeOf}
 
 -- ---- What no modifier of a kind has
 
 module _ (test : Modifier → Bool) where
-  pub no-form : ((k : ℕ) → k < 8 → test (formOf k) ≡ false) → (ks : List ℕ) → all (λ k. ltb k 8) ks ≡ true → any test (map formOf ks) ≡ false
+  pub no-form : ((k : ℕ) → k < 8 → test (formModifier k) ≡ false) → (ks : List ℕ) → all (λ k. ltb k 8) ks ≡ true → any test (map formModifier ks) ≡ false
   no-form h [] b = refl
   no-form h (k ∷ ks) b =
       ap₂ _||_ (h k (ltb-true k 8 (both-left (ltb k 8) (all (λ j. ltb j 8) ks) b))) (no-form h ks (both-right (ltb k 8) (all (λ j. ltb j 8) ks) b))
 
-  both-none : ((s : ℕ) (tilde : Bool) → test (keysymOf s tilde) ≡ false) → (s : ℕ) (a b : Bool) → any test (bothForms a b s) ≡ false
+  both-none : ((s : ℕ) (tilde : Bool) → test (keysymModifier s tilde) ≡ false) → (s : ℕ) (a b : Bool) → any test (bothForms a b s) ≡ false
   both-none h s true true = ap₂ (λ (x y : Bool). x || (y || false)) (h s false) (h s true)
   both-none h s true false = ap (λ (x : Bool). x || false) (h s false)
   both-none h s false true = ap (λ (x : Bool). x || false) (h s true)
   both-none h s false false = refl
 
-  pub no-keysym : ((s : ℕ) (tilde : Bool) → test (keysymOf s tilde) ≡ false) → (ss : List ℕ) → any test (keysymsOf ss) ≡ false
+  pub no-keysym : ((s : ℕ) (tilde : Bool) → test (keysymModifier s tilde) ≡ false) → (ss : List ℕ) → any test (keysymModifiers ss) ≡ false
   no-keysym h [] = refl
   no-keysym h (s ∷ ss) =
-      any-append test (bothForms (isListed false s) (isListed true s) s) (keysymsOf ss)
+      any-append test (bothForms (isListed false s) (isListed true s) s) (keysymModifiers ss)
       ∙ ap₂ _||_ (both-none h s (isListed false s) (isListed true s)) (no-keysym h ss)
 
-  pub no-name : (e : KeptEvent) → ((k : ℕ) → k < 8 → test (formOf k) ≡ false) → ((s : ℕ) (tilde : Bool) → test (keysymOf s tilde) ≡ false)
-      → any test (namesOf e) ≡ false
+  pub no-name : (e : KeptEvent) → ((k : ℕ) → k < 8 → test (formModifier k) ≡ false) → ((s : ℕ) (tilde : Bool) → test (keysymModifier s tilde) ≡ false)
+      → any test (nameModifiers e) ≡ false
   no-name e h g =
-      any-append test (map formOf (formsOf e)) (keysymsOf (slots (e .keysyms)))
-      ∙ ap₂ _||_ (no-form h (formsOf e) (forms-below (λ k. bit k (e .names)))) (no-keysym g (slots (e .keysyms)))
+      any-append test (map formModifier (writtenForms e)) (keysymModifiers (slots (e .keysyms)))
+      ∙ ap₂ _||_ (no-form h (writtenForms e) (forms-below (λ k. bit k (e .names)))) (no-keysym g (slots (e .keysyms)))
 
 -- a keysym of four bytes with marks reads back
 pub keysym-reads : (s : ℕ) → keyDetail (hexadecimal (markedKeysym s)) ≡ DetailRead.Value (markedKeysym s)
@@ -60,11 +59,11 @@ keysym-reads s = hexadecimal-reads (markedKeysym s) (let h : s % 0x20000000 ≤ 
 
 -- ---- Meta, Alt, Hyper, Super
 
-form-lists : (k j : ℕ) → j < 8 → listsForm k (formOf j) ≡ eqb j k
+form-lists : (k j : ℕ) → j < 8 → listsForm k (formModifier j) ≡ eqb j k
 form-lists k j h =
     let n : FormNamed j = form-named j h in ap (isForm k (leb 4 j)) (n .stands) ∙ ap (λ (i : ℕ). eqb i k) (n .bit)
 
-forms-list : (k : ℕ) (js : List ℕ) → all (λ j. ltb j 8) js ≡ true → any (listsForm k) (map formOf js) ≡ any (λ j. eqb j k) js
+forms-list : (k : ℕ) (js : List ℕ) → all (λ j. ltb j 8) js ≡ true → any (listsForm k) (map formModifier js) ≡ any (λ j. eqb j k) js
 forms-list k [] b = refl
 forms-list k (j ∷ js) b =
     ap₂ _||_ (form-lists k j (ltb-true j 8 (both-left (ltb j 8) (all (λ i. ltb i 8) js) b)))
@@ -96,13 +95,13 @@ module _ (e : KeptEvent) where
       ap₂ _||_ (ap (isForm k (not (bit j (e .set)))) (well-named j (both-left (wellNamed j) (all wellNamed ks) w) .stands))
       (bits-list k ks (both-right (wellNamed j) (all wellNamed ks) w))
 
-  list-forms : (k : ℕ) → k < 8 → any (listsForm k) (modifiersOf e) ≡ bit k (e .names)
+  list-forms : (k : ℕ) → k < 8 → any (listsForm k) (writtenModifiers e) ≡ bit k (e .names)
   list-forms k h =
-      any-append (listsForm k) (map (modifierOf e) (bitsOf e)) (namesOf e)
-      ∙ ap (λ (b : Bool). b || any (listsForm k) (namesOf e)) (bits-list k (bitsOf e) (bits-named e))
-      ∙ any-append (listsForm k) (map formOf (formsOf e)) (keysymsOf (slots (e .keysyms)))
-      ∙ ap₂ _||_ (forms-list k (formsOf e) (forms-below (λ j. bit j (e .names)))) (no-keysym (listsForm k) (λ s t. refl) (slots (e .keysyms)))
-      ∙ or-false (any (λ j. eqb j k) (formsOf e))
+      any-append (listsForm k) (map (modifierOf e) (bitsOf e)) (nameModifiers e)
+      ∙ ap (λ (b : Bool). b || any (listsForm k) (nameModifiers e)) (bits-list k (bitsOf e) (bits-named e))
+      ∙ any-append (listsForm k) (map formModifier (writtenForms e)) (keysymModifiers (slots (e .keysyms)))
+      ∙ ap₂ _||_ (forms-list k (writtenForms e) (forms-below (λ j. bit j (e .names)))) (no-keysym (listsForm k) (λ s t. refl) (slots (e .keysyms)))
+      ∙ or-false (any (λ j. eqb j k) (writtenForms e))
       ∙ any-those (λ j. eqb j k) (λ j. bit j (e .names)) formOrder
       ∙ any-at (λ j. bit j (e .names)) k formOrder
       ∙ ap (λ (b : Bool). bit k (e .names) && b) (form-ordered k h)
@@ -115,7 +114,7 @@ module _ (e : KeptEvent) where
   pub names-same : e .names < 256 → namesMask (listOf e) (typeOf (e .code) (e .clause) .added) ≡ e .names
   unfolding namesMask listOf
   names-same h =
-      same-forms (λ k. any (listsForm k) (modifiersOf e) || addsForm (typeOf (e .code) (e .clause) .added) k) (λ k. bit k (e .names))
+      same-forms (λ k. any (listsForm k) (writtenModifiers e) || addsForm (typeOf (e .code) (e .clause) .added) k) (λ k. bit k (e .names))
       (λ k l. ap₂ _||_ (list-forms k l) (adds-no-form (e .clause) k) ∙ or-false (bit k (e .names)))
       ∙ bits-byte (e .names) h
 
@@ -150,7 +149,7 @@ with-both v (s ∷ ss) h b =
     (ap {B = List ℕ} (λ x. s ∷ x) (with-both v ss h (b .1)))
 
 -- a modifier's keysym
-with-keysym : (ss : List ℕ) (s : ℕ) (tilde : Bool) → withModifier ss (keysymOf s tilde) ≡ withKeysym tilde (markedKeysym s) ss
+with-keysym : (ss : List ℕ) (s : ℕ) (tilde : Bool) → withModifier ss (keysymModifier s tilde) ≡ withKeysym tilde (markedKeysym s) ss
 with-keysym ss s tilde = ap (λ (r : DetailRead). withRead tilde r ss) (keysym-reads s)
 
 keysyms-append : (ss : List ℕ) (ms ns : List Modifier) → keysymsFrom ss (ms ++ ns) ≡ keysymsFrom (keysymsFrom ss ms) ns
@@ -175,7 +174,7 @@ one-keysym : (ss : List ℕ) (s : ℕ) → MarkedIn s → AllBelow (markedKeysym
 unfolding keysymsFrom
 one-keysym ss s m b = go (isListed false s) refl (isListed true s) refl
   where
-    set : withModifier ss (keysymOf s false) ≡ ss ++ ((s % 0x20000000 + 0x20000000) ∷ [])
+    set : withModifier ss (keysymModifier s false) ≡ ss ++ ((s % 0x20000000 + 0x20000000) ∷ [])
     set = with-keysym ss s false ∙ with-last false (markedKeysym s) ss b
 
     go : (x : Bool) → isListed false s ≡ x → (y : Bool) → isListed true s ≡ y → keysymsFrom ss (bothForms x y s) ≡ ss ++ (s ∷ [])
@@ -184,7 +183,7 @@ one-keysym ss s m b = go (isListed false s) refl (isListed true s) refl
         let t = eqb-true (s / 0x20000000 % 2) 1 p in
         let u = eqb-true (s / 0x40000000 % 2) 1 q in
         let i : s % 0x20000000 + 0x20000000 + 0x40000000 ≡ s = omega (arith, marks-of s (m .1), t, u) in
-        ap (λ (l : List ℕ). withModifier l (keysymOf s true)) set
+        ap (λ (l : List ℕ). withModifier l (keysymModifier s true)) set
         ∙ with-keysym (ss ++ ((s % 0x20000000 + 0x20000000) ∷ [])) s true
         ∙ with-both (markedKeysym s) ss h b
         ∙ ap {B = List ℕ} (λ x. ss ++ (x ∷ [])) i
@@ -212,20 +211,20 @@ below-next s ss [] b a = tt
 below-next s ss (t ∷ ts) b a = below-more (markedKeysym t) s ss b a
 
 -- those of a rising list, after lower ones
-rising-read : (ss ts : List ℕ) → Rising ts → BelowFirst ss ts → keysymsFrom ss (keysymsOf ts) ≡ ss ++ ts
+rising-read : (ss ts : List ℕ) → Rising ts → BelowFirst ss ts → keysymsFrom ss (keysymModifiers ts) ≡ ss ++ ts
 rising-read ss [] r b = unfold keysymsFrom in sym (append-none ss)
   where
     append-none : (l : List ℕ) → l ++ [] ≡ l
     append-none [] = refl
     append-none (x ∷ l) = ap {B = List ℕ} (λ y. x ∷ y) (append-none l)
 rising-read ss (t ∷ ts) r b =
-    keysyms-append ss (bothForms (isListed false t) (isListed true t) t) (keysymsOf ts)
-    ∙ ap (λ (l : List ℕ). keysymsFrom l (keysymsOf ts)) (one-keysym ss t (r .0) b)
+    keysyms-append ss (bothForms (isListed false t) (isListed true t) t) (keysymModifiers ts)
+    ∙ ap (λ (l : List ℕ). keysymsFrom l (keysymModifiers ts)) (one-keysym ss t (r .0) b)
     ∙ rising-read (ss ++ (t ∷ [])) ts (r .2) (below-next t ss ts b (r .1))
     ∙ append-snoc ss t ts
 
 -- an unused slot writes nothing
-slots-used : (ss : List ℕ) → length ss ≤ 4 → keysymsOf (slots (keysymsIn ss)) ≡ keysymsOf ss
+slots-used : (ss : List ℕ) → length ss ≤ 4 → keysymModifiers (slots (keysymsIn ss)) ≡ keysymModifiers ss
 slots-used [] h = refl
 slots-used (a ∷ []) h = refl
 slots-used (a ∷ b ∷ []) h = refl
@@ -247,11 +246,11 @@ module _ (e : KeptEvent) (k : KeysymsIn (e .keysyms)) where
   pub keysyms-same : Rules.keysymsOf (listOf e) ≡ k .all
   unfolding Rules.keysymsOf listOf
   keysyms-same =
-      keysyms-append [] (map (modifierOf e) (bitsOf e)) (namesOf e)
-      ∙ ap (λ (l : List ℕ). keysymsFrom l (namesOf e)) (named-none (modifierOf e) (λ ss j. refl) [] (bitsOf e))
-      ∙ keysyms-append [] (map formOf (formsOf e)) (keysymsOf (slots (e .keysyms)))
-      ∙ ap (λ (l : List ℕ). keysymsFrom l (keysymsOf (slots (e .keysyms)))) (named-none formOf (λ ss j. refl) [] (formsOf e))
-      ∙ ap (λ (x : Keysyms). keysymsFrom [] (keysymsOf (slots x))) (k .places)
+      keysyms-append [] (map (modifierOf e) (bitsOf e)) (nameModifiers e)
+      ∙ ap (λ (l : List ℕ). keysymsFrom l (nameModifiers e)) (named-none (modifierOf e) (λ ss j. refl) [] (bitsOf e))
+      ∙ keysyms-append [] (map formModifier (writtenForms e)) (keysymModifiers (slots (e .keysyms)))
+      ∙ ap (λ (l : List ℕ). keysymsFrom l (keysymModifiers (slots (e .keysyms)))) (named-none formModifier (λ ss j. refl) [] (writtenForms e))
+      ∙ ap (λ (x : Keysyms). keysymsFrom [] (keysymModifiers (slots x))) (k .places)
       ∙ ap (keysymsFrom []) (slots-used (k .all) (k .few))
       ∙ rising-read [] (k .all) (k .rising) (lowest (k .all))
     where

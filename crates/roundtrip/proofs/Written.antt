@@ -26,37 +26,37 @@ bitsOf e = those (isWrittenBit e) writingOrder
 abbrev pub formOrder : List ℕ
 formOrder = 0 ∷ 4 ∷ 1 ∷ 5 ∷ 2 ∷ 6 ∷ 3 ∷ 7 ∷ []
 
-abbrev pub formOf : ℕ → Modifier
-formOf k = name (leb 4 k) (longName (k % 4))
+abbrev pub formModifier : ℕ → Modifier
+formModifier k = name (leb 4 k) (longName (k % 4))
 
-abbrev pub formsOf : KeptEvent → List ℕ
-formsOf e = those (λ k. bit k (e .names)) formOrder
+abbrev pub writtenForms : KeptEvent → List ℕ
+writtenForms e = those (λ k. bit k (e .names)) formOrder
 
 -- ---- Keysyms
 
-abbrev pub keysymOf : ℕ → (tilde : Bool) → Modifier
-keysymOf s tilde = keysym tilde (hexadecimal (markedKeysym s))
+abbrev pub keysymModifier : ℕ → (tilde : Bool) → Modifier
+keysymModifier s tilde = keysym tilde (hexadecimal (markedKeysym s))
 
 abbrev pub bothForms : (set clear : Bool) → ℕ → List Modifier
-bothForms set clear s = cond set (keysymOf s false ∷ []) [] ++ cond clear (keysymOf s true ∷ []) []
+bothForms set clear s = cond set (keysymModifier s false ∷ []) [] ++ cond clear (keysymModifier s true ∷ []) []
 
-abbrev pub keysymsOf : List ℕ → List Modifier
-keysymsOf [] = []
-keysymsOf (s ∷ ss) = bothForms (isListed false s) (isListed true s) s ++ keysymsOf ss
+abbrev pub keysymModifiers : List ℕ → List Modifier
+keysymModifiers [] = []
+keysymModifiers (s ∷ ss) = bothForms (isListed false s) (isListed true s) s ++ keysymModifiers ss
 
 abbrev pub slots : Keysyms → List ℕ
 slots k = k .first ∷ k .second ∷ k .third ∷ k .fourth ∷ []
 
 -- ---- The event
 
-abbrev pub namesOf : KeptEvent → List Modifier
-namesOf e = map formOf (formsOf e) ++ keysymsOf (slots (e .keysyms))
+abbrev pub nameModifiers : KeptEvent → List Modifier
+nameModifiers e = map formModifier (writtenForms e) ++ keysymModifiers (slots (e .keysyms))
 
-abbrev pub modifiersOf : KeptEvent → List Modifier
-modifiersOf e = map (modifierOf e) (bitsOf e) ++ namesOf e
+abbrev pub writtenModifiers : KeptEvent → List Modifier
+writtenModifiers e = map (modifierOf e) (bitsOf e) ++ nameModifiers e
 
 unfoldable pub listOf : KeptEvent → ModifierList
-listOf e = listed (writesBang e) (e .colon) (modifiersOf e)
+listOf e = listed (writesBang e) (e .colon) (writtenModifiers e)
 
 unfoldable pub countOf : ℕ → Option Count
 countOf n = cond (ltb 1 n) (some (record { digits = decimal n; plus = false })) none

@@ -5,8 +5,8 @@ use mathlib.Core.Path.{ap, _∙_}
 use mathlib.Core.Bool.{Bool, true, false, not, _||_}
 use lib.Dec.{eqb, lit≤}
 use Rattle.model.specs.Named.{listedMark}
-use Rattle.keysym_list.specs.declared.Passed.{Passed}
-use Rattle.keysym_list.specs.Slots.{passed, withOneMore}
+use Rattle.keysym_list.specs.declared.Carried.{Carried}
+use Rattle.keysym_list.specs.Slots.{slotPassed, withOneMore}
 use borrow.Author.Needs.{needs}
 use Rattle.keysym_list.proofs.with_one_more.Statement.{statement}
 use Rattle.keysym_list.proofs.with_one_more.Tie as tie
@@ -40,10 +40,10 @@ returns c =
     let a = b .before .before .before .before .before .args in
     let first =
     b .before .before .before .pass .ensures
-    ∙ ap (λ (m : ℕ). passed (a .tilde) (a .k .first) (a .v + m)) (b .before .before .before .before .listed-mark .ensures) in
-    let second = b .before .before .pass2 .ensures ∙ ap (λ (p : Passed). passed (a .tilde) (a .k .second) (p .carried)) first in
-    let third = b .before .pass3 .ensures ∙ ap (λ (p : Passed). passed (a .tilde) (a .k .third) (p .carried)) second in
-    let fourth = b .pass4 .ensures ∙ ap (λ (p : Passed). passed (a .tilde) (a .k .fourth) (p .carried)) third in
+    ∙ ap (λ (m : ℕ). slotPassed (a .tilde) (a .k .first) (a .v + m)) (b .before .before .before .before .listed-mark .ensures) in
+    let second = b .before .before .pass2 .ensures ∙ ap (λ (p : Carried). slotPassed (a .tilde) (a .k .second) (p .carried)) first in
+    let third = b .before .pass3 .ensures ∙ ap (λ (p : Carried). slotPassed (a .tilde) (a .k .third) (p .carried)) second in
+    let fourth = b .pass4 .ensures ∙ ap (λ (p : Carried). slotPassed (a .tilde) (a .k .fourth) (p .carried)) third in
     λ i.
     record {
       keysyms = record { first = first i .slot; second = second i .slot; third = third i .slot; fourth = fourth i .slot };

@@ -1,6 +1,5 @@
 -- `name_text::form_bit` meets its contract.
 use borrow.Author.Needs.{needs}
-use native.Mathlib.Omega.{arith}
 use Rattle.name_text.proofs.form_bit.Statement.{statement}
 use Rattle.name_text.proofs.form_bit.Tie as tie
 

@@ -1,5 +1,4 @@
 -- `name_text::form_tilde` meets its contract.
-use borrow.Author.Needs.{needs}
 use mathlib.Core.Path.{refl}
 use Rattle.name_text.specs.Forms.{formTilde}
 use Rattle.name_text.proofs.form_tilde.Statement.{statement}

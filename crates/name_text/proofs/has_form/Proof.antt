@@ -1,7 +1,6 @@
 -- `name_text::has_form` meets its contract.
 use borrow.Author.Needs.{needs}
 use borrow.Author.Tests.{lt-ltb, le-ltb}
-use mathlib.Core.Path.{_≡_, refl, sym, ap, ap₂, _∙_}
 use Rattle.name_text.specs.Forms.{hasForm}
 use Rattle.name_text.proofs.has_form.Statement.{statement}
 use Rattle.name_text.proofs.has_form.Tie as tie

@@ -1,5 +1,4 @@
 -- `name_text::is_listed` meets its contract.
-use borrow.Author.Needs.{needs}
 use Rattle.name_text.proofs.is_listed.Statement.{statement}
 use Rattle.name_text.proofs.is_listed.Tie as tie
 

@@ -1,5 +1,4 @@
 -- `name_text::keysym_at` meets its contract.
-use borrow.Author.Needs.{needs}
 use borrow.Author.Tests.{eq-eqb, ne-eqb}
 use Rattle.name_text.specs.Forms.{keysymAt}
 use Rattle.name_text.proofs.keysym_at.Statement.{statement}

@@ -3,7 +3,7 @@ use borrow.Author.Needs.{needs}
 use native.Mathlib.Omega.{arith}
 use mathlib.Core.Bool.{Bool, cond}
 use mathlib.Core.List.{[], _∷_, _++_}
-use mathlib.Core.Path.{_≡_, refl, sym, ap, ap₂, _∙_}
+use mathlib.Core.Path.{_≡_, ap}
 use Rattle.writing.proofs.Laws.{put-then, put-as}
 use Rattle.name_text.specs.Forms.{formText, formWord, formTilde}
 use Rattle.name_text.proofs.put_form.Statement.{statement}

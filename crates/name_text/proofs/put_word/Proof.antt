@@ -9,8 +9,8 @@ use Rattle.model.specs.Named.{markedKeysym}
 use Rattle.model.specs.Canonical.{hexadecimal, longName}
 use Rattle.names.specs.Table.{nameRow}
 use Rattle.name_text.proofs.LongNames.{long-name, short-name}
-use mathlib.Core.Path.{_≡_, refl, sym, ap, ap₂, _∙_}
-use Rattle.writing.proofs.Laws.{put-then, put-as}
+use mathlib.Core.Path.{_≡_, sym, ap, _∙_}
+use Rattle.writing.proofs.Laws.{put-as}
 use Rattle.name_text.specs.Forms.{formWord, keysymAt}
 use Rattle.name_text.proofs.put_word.Statement.{statement}
 use Rattle.name_text.proofs.put_word.Tie as tie
