@@ -1,5 +1,5 @@
 -- No text is refused with 0: the compiler's number tells whether a text is accepted.
-use Prim.Native.Nat.{ℕ, zero, suc, _+_, _*_, _<_}
+use Prim.Native.Nat.{ℕ, zero, suc, _+_, _<_}
 use native.Mathlib.Omega.{arith}
 use borrow.Author.Tests.{eqb-false}
 use mathlib.Core.Path.{_≡_, refl, subst}
@@ -17,7 +17,7 @@ use Rattle.model.specs.Names.{typeNamed}
 use Rattle.model.specs.Named.{isCrowded}
 use Rattle.model.specs.Judging.{eventNumber, keptEvent, judgedAs, judgedMark, judgedWritten, judged}
 use Rattle.model.specs.Tables.{Production}
-use Rattle.model.specs.Compiling.{passesLimit, LineRead, broken, production, lineRead, EventsJudged, keep, crowded, keepOneMore, judgedNext, judgedAll, callOf, LineOutcome, add, withinLimits, lineJudged, lineFrom, lineOutcome, Outcome, accepted, refused, goOn, afterLine, afterDirective, linesFrom, linesOf, afterBytes, compiled}
+use Rattle.model.specs.Compiling.{passesLimit, LineRead, broken, production, lineRead, EventsJudged, keep, crowded, judgedNext, judgedAll, callOf, LineOutcome, add, lineJudged, lineFrom, lineOutcome, Outcome, accepted, refused, goOn, afterLine, afterDirective, linesFrom, linesOf, afterBytes, compiled}
 use Rattle.claims.specs.Compiling.{RefusedNumbered}
 use Rattle.model.specs.declared.names.TypeName.{TypeName}
 use Rattle.model.specs.declared.scan.KeyMark.{KeyMark}

@@ -26,7 +26,7 @@ use Rattle.resolving.specs.Gathering.{resolvedTest}
 use Rattle.resolving.proofs.Asking.{asked-below}
 use Rattle.records.specs.Ranges.{EventRanges}
 use Rattle.counts.specs.Elements.{releases, elementCount, elementCode}
-use Rattle.tables.specs.Layout.{codesAt, countsAt, setsAt, clearsAt, lowsAt, highsAt}
+use Rattle.tables.specs.Layout.{codesAt, countsAt, setsAt, lowsAt, highsAt}
 use Rattle.tables.specs.Reading.{isFlag, eventFromWords, eventEntry, eventTotal}
 use Rattle.filter.specs.declared.Sought.{Sought}
 use Rattle.follow.specs.declared.Followed.{Followed}

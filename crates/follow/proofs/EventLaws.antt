@@ -2,10 +2,11 @@
 use Prim.Native.Nat.{ℕ, _≤_, _<_}
 use borrow.Author.Tests.{le-leb, lt-leb, eq-eqb, ne-eqb, eqb-true, not-false}
 use mathlib.Core.Path.{_≡_, refl, sym, ap, ap₂, _∙_}
-use mathlib.Core.Bool.{Bool, true, false, not, _&&_, _||_, true≢false}
+use mathlib.Core.Bool.{Bool, true, false, not, _&&_, true≢false}
 use mathlib.Core.List.{List}
 use mathlib.Core.Option.{Option}
 use lib.Dec.{eqb}
+use Rattle.words.proofs.Bools.{or-no-left, or-no-right}
 use Rattle.model.specs.Modifiers.{stateMeets}
 use Rattle.model.specs.Setting.{Setting, firstKeysym, secondKeysym}
 use Rattle.model.specs.Named.{noKeysyms, keepsNames, keptAsWritten}
@@ -37,14 +38,6 @@ and-assoc true b c = refl
 and-assoc false b c = refl
 
 -- ---- Events that keep no `!` and no name
-
-or-no-left : (a b : Bool) → a || b ≡ false → a ≡ false
-or-no-left true b q = q
-or-no-left false b q = refl
-
-or-no-right : (a b : Bool) → a || b ≡ false → b ≡ false
-or-no-right true b q = absurd (true≢false q)
-or-no-right false b q = q
 
 plain-bang : (e : KeptEvent) → keptAsWritten e ≡ false → e .bang ≡ false
 plain-bang e p = or-no-left (e .bang) (keepsNames e) p

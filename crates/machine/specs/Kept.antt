@@ -113,7 +113,8 @@ module _ (t : Table) (setting : Setting) where
       readingOf t setting .known x && ltb contextLimit (length (moved (readingOf t setting) k x .events))
   passesContext k (RecordRead.Refused n) = false
 
-  -- the number that refuses a call, 0 where none does: "Matcher: 1, 12, 14, 13, 15." and R-1's 18, of which 12 and 14 are about bytes
+  -- the number that refuses a call, 0 where none does: "Matcher: 1, 12, 14, 13, 15.", R-1: "18 .. after 1"; of these 12 and 14
+  -- are about bytes
   unfoldable pub stepNumber : Kept Event → MatchCall → ℕ
   stepNumber k c =
       matchOrder (callChecks setting c (passesContext k (recordRead (c .bytes) (c .order))))

@@ -1,7 +1,6 @@
 -- Names gathered one at a time come to what the model's `asked` says; an event without names asks its own bits.
 use Prim.Native.Nat.{ℕ, _-_, _<_}
-use native.Mathlib.Omega.{arith}
-use borrow.Author.Tests.{eqb-true, eq-eqb, ne-eqb}
+use borrow.Author.Tests.{eq-eqb, ne-eqb}
 use mathlib.Core.Path.{_≡_, refl, sym, ap, ap₂, _∙_}
 use mathlib.Core.Bool.{Bool, true, false, cond, not, _&&_, _||_, true≢false}
 use mathlib.Core.List.{List, [], _∷_}
@@ -11,14 +10,14 @@ use Rattle.model.specs.Lists.{any}
 use Rattle.model.specs.Modifiers.{bit, bits, mask, isShiftOrLock, isTestable, asksBit}
 use Rattle.model.specs.Setting.{Setting}
 use Rattle.model.specs.Named.{noKeysyms}
-use Rattle.model.specs.Resolving.{Name, namedModifier, namedKeysym, namesOf, holdsKeysym, keycodeHolds, rowOf, hasBit, isUnmet, resolvesSet, resolvesClear, resolves}
+use Rattle.model.specs.Resolving.{Name, namesOf, holdsKeysym, keycodeHolds, rowOf, hasBit, isUnmet, resolvesSet, resolvesClear, resolves}
 use Rattle.model.specs.Asked.{Test, asksBitSet, asksBitClear, isUnlisted, asked}
 use Rattle.model.specs.declared.events.Detail.{Detail}
 use Rattle.model.specs.declared.events.Keysyms.{Keysyms}
 use Rattle.model.specs.declared.events.KeptEvent.{KeptEvent}
 use Rattle.modifiers.proofs.Digits.{bit-none}
-use Rattle.modifiers.proofs.Masks.{same-mask, same-bits, bit-mask, mask-bits, mask-below, mask-or, mask-and, mask-not, mask-none}
-use Rattle.modifiers.proofs.Below.{some, none-at, none-from, any-bits, apart}
+use Rattle.modifiers.proofs.Masks.{same-mask, bit-mask, mask-bits, mask-below, mask-or, mask-and, mask-not, mask-none}
+use Rattle.modifiers.proofs.Below.{none-at, none-from, any-bits}
 use Rattle.keyboard.specs.Maps.{lentSetting}
 use Rattle.resolving.specs.declared.Resolved.{Resolved}
 use Rattle.resolving.specs.Gathering.{bitsOf, gathered, withBits, testableMask, otherBits, tested, resolvedTest}

@@ -3,10 +3,11 @@ use Prim.Native.Nat.{ℕ, zero, suc, _+_, _<_}
 use native.Mathlib.Omega.{arith}
 use native.Mathlib.Numerals.{add-one}
 use mathlib.Core.Path.{_≡_, refl, sym, ap, _∙_}
-use mathlib.Core.Bool.{Bool, true, false, _||_, true≢false}
+use mathlib.Core.Bool.{Bool, true, false, _||_}
 use mathlib.Core.List.{List, [], _∷_}
 use lib.ListN.{length, getD, drop, drop-of-length-le}
 use lib.Seq.{drop-cons}
+use Rattle.words.proofs.Bools.{or-no-left, or-no-right}
 use Rattle.model.specs.Lists.{any}
 
 or-assoc : (a b c : Bool) → a || (b || c) ≡ (a || b) || c
@@ -33,13 +34,5 @@ module _ (test : ℕ → Bool) (l : List ℕ) where
 -- none passes, so this one does not
 pub none-passes : (test : ℕ → Bool) (l : List ℕ) → any test l ≡ false → (i : ℕ) → i < length l → test (getD l i 0) ≡ false
 none-passes test [] e i h = absurd (omega arith)
-none-passes test (x ∷ xs) e zero h = left (test x) (any test xs) e
-  where
-    left : (a b : Bool) → a || b ≡ false → a ≡ false
-    left true b q = q
-    left false b q = refl
-none-passes test (x ∷ xs) e (suc i) h = none-passes test xs (right (test x) (any test xs) e) i (omega arith)
-  where
-    right : (a b : Bool) → a || b ≡ false → b ≡ false
-    right true b q = absurd (true≢false q)
-    right false b q = q
+none-passes test (x ∷ xs) e zero h = or-no-left (test x) (any test xs) e
+none-passes test (x ∷ xs) e (suc i) h = none-passes test xs (or-no-right (test x) (any test xs) e) i (omega arith)

@@ -9,15 +9,15 @@ use mathlib.Core.List.{List, [], _∷_}
 use lib.Dec.{eqb, ltb, leb}
 use lib.ListN.{length, getD, take, drop, length-take, length-drop, drop-of-length-le}
 use lib.Seq.{getD-take, getD-drop, drop-drop, take-nil}
+use Rattle.words.proofs.Bools.{and-left, and-right, or-no-left, or-no-right}
 use Rattle.model.specs.Lists.{any}
 use Rattle.model.specs.Bytes.{inRange}
 use Rattle.model.specs.Modifiers.{bit, mask}
-use Rattle.model.specs.Setting.{Setting, firstKeysym, secondKeysym}
 use Rattle.model.specs.Resolving.{isBadMap, rowOf, keycodeHolds, holdsKeysym}
 use Rattle.modifiers.specs.Setting.{withBit}
 use Rattle.modifiers.proofs.Masks.{same-mask, mask-none, mask-below}
 use Rattle.modifiers.proofs.Setting.{with-bit-mask}
-use Rattle.keyboard.specs.Maps.{mapNumbers, modifierEntriesIn, lentSetting}
+use Rattle.keyboard.specs.Maps.{mapNumbers, lentSetting}
 use Rattle.keyboard.specs.Pairs.{pairAt}
 use Rattle.keyboard.specs.declared.Pair.{Pair}
 use Rattle.keyboard.proofs.Maps.{map-bytes}
@@ -42,22 +42,6 @@ unfolding keycodeHolds
 holds-pair keyboard left right keycode p e f =
     rw (ne-eqb keycode 0 f, e)
     (ap (λ (b : Bool). holdsKeysym keyboard keycode left || b) (sym (or-none (holdsKeysym keyboard keycode right))))
-
-either-left : (a b : Bool) → a || b ≡ false → a ≡ false
-either-left true b e = e
-either-left false b e = refl
-
-either-right : (a b : Bool) → a || b ≡ false → b ≡ false
-either-right true b e = absurd (true≢false e)
-either-right false b e = e
-
-both-left : (a b : Bool) → a && b ≡ true → a ≡ true
-both-left true b e = refl
-both-left false b e = e
-
-both-right : (a b : Bool) → a && b ≡ true → b ≡ true
-both-right true b e = e
-both-right false b e = let z : b ≡ true = cc in z
 
 -- n entries from a place on
 module _ (l : List ℕ) (from n : ℕ) where
@@ -89,13 +73,13 @@ unfolding isBadMap
 good-map map e =
     let uneven = not (eqb (length map % 8) 0) in
     let size = inRange 8 (length map) 64 in
-    let s : uneven || not size ≡ false = either-left (uneven || not size) (any isLowEntry map) e in
-    let i : size ≡ true = not-false size (either-right uneven (not size) s) in
+    let s : uneven || not size ≡ false = or-no-left (uneven || not size) (any isLowEntry map) e in
+    let i : size ≡ true = not-false size (or-no-right uneven (not size) s) in
     record {
-      rows = eqb-true (length map % 8) 0 (not-false _ (either-left uneven (not size) s));
-      least = leb-true 8 (length map) (both-left (leb 8 (length map)) (leb (length map) 64) i);
-      most = leb-true (length map) 64 (both-right (leb 8 (length map)) (leb (length map) 64) i);
-      entries = either-right (uneven || not size) (any isLowEntry map) e;
+      rows = eqb-true (length map % 8) 0 (not-false _ (or-no-left uneven (not size) s));
+      least = leb-true 8 (length map) (and-left (leb 8 (length map)) (leb (length map) 64) i);
+      most = leb-true (length map) 64 (and-right (leb 8 (length map)) (leb (length map) 64) i);
+      entries = or-no-right (uneven || not size) (any isLowEntry map) e;
     }
 
 module _ (maps : List ℕ) (ready : MapsReady maps) where

@@ -2,19 +2,17 @@
 -- proofs/Asking shows that this comes to model's `asked`.
 use Prim.Native.Nat.{ℕ, _-_}
 use mathlib.Core.Path.{_≡_}
-use mathlib.Core.Bool.{Bool, false, true, cond, _&&_, _||_}
-use mathlib.Core.List.{List, [], _∷_}
+use mathlib.Core.Bool.{Bool, false, cond, _&&_, _||_}
+use mathlib.Core.List.{List}
 use lib.Dec.{eqb}
 use lib.Bits.{bitAnd, bitOr}
 use lib.ListN.{length}
 use Rattle.model.specs.Lists.{any}
 use Rattle.model.specs.Bytes.{inRange}
-use Rattle.model.specs.Modifiers.{mask, bit}
+use Rattle.model.specs.Modifiers.{mask}
 use Rattle.model.specs.Setting.{Setting}
-use Rattle.model.specs.Named.{formBit, markedKeysym, isListed}
 use Rattle.model.specs.Resolving.{Name, isBadMap, rowOf, keycodeHolds, hasBit, isUnmet}
 use Rattle.model.specs.Asked.{Test}
-use Rattle.model.specs.declared.events.KeptEvent.{KeptEvent}
 use Rattle.keyboard.specs.Maps.{mapNumbers, modifierEntriesIn}
 use Rattle.resolving.specs.declared.Resolved.{Resolved}
 

@@ -5,7 +5,6 @@ ghost use mathlib.Core.Bool.{true, false, cond};
 ghost use mathlib.Core.List.{[], _∷_};
 ghost use Prim.Native.Nat.{ℕ, _+_, _≤_, _<_};
 ghost use lib.ListN.{length, take, drop};
-ghost use Rattle.model.specs.Bytes.{inRange};
 ghost use Rattle.model.specs.Lists.{any};
 ghost use Rattle.model.specs.Named.{markedKeysym, isListed};
 ghost use Rattle.model.specs.Resolving.{isBadMap, keycodeHolds, namedKeysym, namesOf};

@@ -1,7 +1,7 @@
 -- `follow::event_meets` meets its contract.
 use Prim.Native.Nat.{ℕ, _<_}
 use native.Mathlib.Omega.{arith}
-use mathlib.Core.Path.{_≡_, sym, ap₂, _∙_}
+use mathlib.Core.Path.{sym, ap₂, _∙_}
 use denote.Ref.{now}
 use Rattle.tables.specs.Reading.{eventEntry}
 use Rattle.keyboard.specs.Maps.{mapNumbers, lentSetting}

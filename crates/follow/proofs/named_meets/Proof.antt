@@ -13,7 +13,6 @@ use Rattle.resolving.proofs.Asking.{asked-below}
 use Rattle.follow.specs.Follow.{bitsMeet}
 use Rattle.fields.proofs.TableFacts.{table-facts}
 use Rattle.follow.proofs.EventLaws.{meets-resolved}
-use borrow.Author.Needs.{needs}
 use Rattle.follow.proofs.named_meets.Statement.{statement}
 use Rattle.follow.proofs.named_meets.Tie as tie
 

@@ -1,7 +1,7 @@
 -- `keyboard::pair_at` meets its contract.
 use Prim.Native.Nat.{ℕ, _-_, _*_, _+_, _≤_, _<_}
 use native.Mathlib.Omega.{arith}
-use mathlib.Core.Path.{_≡_, ap₂, _∙_}
+use mathlib.Core.Path.{ap₂, _∙_}
 use denote.Ref.{now}
 use lib.ListN.{length}
 use Rattle.keyboard.proofs.Maps.{map-bytes, number-at}

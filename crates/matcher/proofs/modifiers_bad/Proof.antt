@@ -1,5 +1,5 @@
 -- `matcher::modifiers_bad` meets its contract.
-use mathlib.Core.Path.{_≡_, ap, _∙_}
+use mathlib.Core.Path.{ap, _∙_}
 use denote.Ref.{now}
 use Rattle.model.specs.Resolving.{isBadMap}
 use Rattle.matcher.proofs.MatchLaws.{no-modifiers, rest-is}

@@ -1,5 +1,4 @@
 -- `resolving::keycode_holds` meets its contract.
-use borrow.Author.Needs.{needs}
 use denote.Ref.{now}
 use Rattle.model.specs.Resolving.{keycodeHolds}
 use Rattle.keyboard.specs.Maps.{mapNumbers}
