@@ -11,7 +11,7 @@ use Rattle.model.specs.Lists.{bytes, all, those}
 use Rattle.model.specs.Codes.{isKey, isButton, motionNotify, hasMode, takesModifiers}
 use Rattle.model.specs.Names.{Entry, nameOf, metaName, altName, hyperName, superName, modifierEntries, protocolEntries}
 use Rattle.model.specs.Details.{buttonEntries, motionEntries, modeEntries, requestEntries}
-use Rattle.model.specs.Modifiers.{bits, isBit, isNamed, bit, asksBit, isTestable}
+use Rattle.model.specs.Modifiers.{bits, isBit, isMapped, bit, asksBit, isTestable}
 use Rattle.model.specs.Named.{formBit, markedKeysym, isListed, keptAsWritten}
 use Rattle.model.specs.Tables.{Call, Production, Table}
 use Rattle.model.specs.Asking.{partBytes}
@@ -88,7 +88,7 @@ formTexts set clear text = cond set (text ∷ []) [] ++ cond clear ((bytes "~" +
 
 -- the long name of Meta, Alt, Hyper or Super, which stands before the short one
 unfoldable pub longName : ℕ → List ℕ
-longName n = nameOf (isNamed n) [] modifierEntries
+longName n = nameOf (isMapped n) [] modifierEntries
 
 abbrev pub nameTexts : KeptEvent → ℕ → List (List ℕ)
 nameTexts e n = formTexts (bit (formBit false n) (e .names)) (bit (formBit true n) (e .names)) (longName n)

@@ -46,10 +46,10 @@ isBit k (ModifierName.Named n) = false
 isBit k ModifierName.Unknown = false
 
 -- R-1: Meta, Alt, Hyper or Super
-abbrev pub isNamed : ℕ → ModifierName → Bool
-isNamed k (ModifierName.Bit n) = false
-isNamed k (ModifierName.Named n) = eqb n k
-isNamed k ModifierName.Unknown = false
+abbrev pub isMapped : ℕ → ModifierName → Bool
+isMapped k (ModifierName.Bit n) = false
+isMapped k (ModifierName.Named n) = eqb n k
+isMapped k ModifierName.Unknown = false
 
 -- the modifier lists bit k, with `~` or without
 abbrev pub lists : Bool → ℕ → Modifier → Bool

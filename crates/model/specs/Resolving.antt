@@ -9,8 +9,8 @@
 --     6     Mod4      133 0
 --
 -- Meta and Alt are Mod1, Super is Mod4, `@0xffe1` is Shift, and Hyper has no bit. An entry 0 is unused.
-use Prim.Native.Nat.{ℕ, _+_, _*_, _/_, _%_}
-use mathlib.Core.Bool.{Bool, cond, not, _&&_, _||_}
+use Prim.Native.Nat.{ℕ, _*_, _/_, _%_}
+use mathlib.Core.Bool.{Bool, not, _&&_, _||_}
 use mathlib.Core.List.{List, [], _∷_}
 use lib.Dec.{eqb}
 use lib.ListN.{length, take, drop}
@@ -39,13 +39,13 @@ rowOf map k = take (length map / modifierRows) (drop (k * (length map / modifier
 -- ---- Names
 
 -- a name of an event: what it may stand for, and how it is listed
-pub record Name : Type 0 where
+pub record ListedName : Type 0 where
   pub keysyms : List ℕ
   pub set : Bool
   pub clear : Bool
 
 -- "(left or right)", values from keysymdef.h
-abbrev pub namedModifier : KeptEvent → ℕ → (left right : ℕ) → Name
+abbrev pub namedModifier : KeptEvent → ℕ → (left right : ℕ) → ListedName
 namedModifier e n left right =
     record {
       keysyms = left ∷ right ∷ [];
@@ -53,11 +53,11 @@ namedModifier e n left right =
       clear = bit (formBit Bool.true n) (e .names);
     }
 
-abbrev pub namedKeysym : ℕ → Name
+abbrev pub namedKeysym : ℕ → ListedName
 namedKeysym s = record { keysyms = markedKeysym s ∷ []; set = isListed Bool.false s; clear = isListed Bool.true s }
 
 -- all names that an event may list, those that it does not list too
-unfoldable pub namesOf : KeptEvent → List Name
+unfoldable pub namesOf : KeptEvent → List ListedName
 namesOf e =
     namedModifier e metaName 0xffe7 0xffe8
     ∷ namedModifier e altName 0xffe9 0xffea
@@ -80,11 +80,11 @@ unfoldable pub keycodeHolds : List ℕ → List ℕ → ℕ → Bool
 keycodeHolds keyboard keysyms keycode = not (eqb keycode 0) && any (holdsKeysym keyboard keycode) keysyms
 
 -- "every modifier bit with a keycode in its row whose pair as lent holds the named keysym"
-unfoldable pub hasBit : Setting → Name → ℕ → Bool
+unfoldable pub hasBit : Setting → ListedName → ℕ → Bool
 hasBit setting n k = any (keycodeHolds (setting .keyboard) (n .keysyms)) (rowOf (setting .modifiers) k)
 
 -- "A name with no bit, listed without `~`"
-unfoldable pub isUnmet : Setting → Name → Bool
+unfoldable pub isUnmet : Setting → ListedName → Bool
 isUnmet setting n = n .set && not (any (hasBit setting n) bits)
 
 -- the bit is one of a name that the event lists without `~`, with it, or either way

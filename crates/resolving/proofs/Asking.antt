@@ -10,7 +10,7 @@ use Rattle.model.specs.Lists.{any}
 use Rattle.model.specs.Modifiers.{bit, bits, mask, isShiftOrLock, isTestable, asksBit}
 use Rattle.model.specs.Setting.{Setting}
 use Rattle.model.specs.Named.{noKeysyms}
-use Rattle.model.specs.Resolving.{Name, namesOf, holdsKeysym, keycodeHolds, rowOf, hasBit, isUnmet, resolvesSet, resolvesClear, resolves}
+use Rattle.model.specs.Resolving.{ListedName, namesOf, holdsKeysym, keycodeHolds, rowOf, hasBit, isUnmet, resolvesSet, resolvesClear, resolves}
 use Rattle.model.specs.Asked.{Test, asksBitSet, asksBitClear, isUnlisted, asked}
 use Rattle.model.specs.declared.events.Detail.{Detail}
 use Rattle.model.specs.declared.events.Keysyms.{Keysyms}
@@ -65,7 +65,7 @@ with-none so m false true e = absurd (true≢false e)
 with-none so m false false e = resolved _ _ _ _ _ _ (or-zero-l (so .set)) (or-zero-l (so .clear)) refl
 
 module _ (setting : Setting) where
-  name-bits : (n : Name) → mask (hasBit setting n) ≡ bitsOf setting (n .keysyms)
+  name-bits : (n : ListedName) → mask (hasBit setting n) ≡ bitsOf setting (n .keysyms)
   unfolding bitsOf hasBit
   name-bits n = refl
 
@@ -85,19 +85,19 @@ module _ (setting : Setting) where
   gathered-none = sym (resolved (mask (λ k. false)) 0 (mask (λ k. false)) 0 false false mask-none mask-none refl)
 
   -- a name listed so, and others
-  joined : (b : Bool) (n : Name) (f : ℕ → Bool)
+  joined : (b : Bool) (n : ListedName) (f : ℕ → Bool)
       → bitOr (cond b (bitsOf setting (n .keysyms)) 0) (mask f) ≡ mask (λ k. (b && hasBit setting n k) || f k)
   joined b n f =
       ap (λ (m : ℕ). bitOr m (mask f)) (sym (bits-if b (hasBit setting n) ∙ ap (λ (m : ℕ). cond b m 0) (name-bits n)))
       ∙ sym (mask-or (λ k. b && hasBit setting n k) f)
 
-  unmet : (n : Name) → n .set && eqb (bitsOf setting (n .keysyms)) 0 ≡ isUnmet setting n
+  unmet : (n : ListedName) → n .set && eqb (bitsOf setting (n .keysyms)) 0 ≡ isUnmet setting n
   unfolding isUnmet
   unmet n =
       ap (λ (b : Bool). n .set && b)
       (ap (λ (m : ℕ). eqb m 0) (sym (name-bits n)) ∙ mask-zero (hasBit setting n))
 
-  gathered-cons : (n : Name) (ns : List Name)
+  gathered-cons : (n : ListedName) (ns : List ListedName)
       → withBits (gathered setting ns) (bitsOf setting (n .keysyms)) (n .set) (n .clear) ≡ gathered setting (n ∷ ns)
   unfolding gathered withBits
   gathered-cons n ns =
@@ -106,12 +106,12 @@ module _ (setting : Setting) where
       (joined (n .clear) n (λ k. any (λ m. m .clear && hasBit setting m k) ns))
       (ap (λ (b : Bool). b || any (isUnmet setting) ns) (unmet n))
 
-  pub gathered-more : (n : Name) (ns : List Name) (so : Resolved) → so ≡ gathered setting ns
+  pub gathered-more : (n : ListedName) (ns : List ListedName) (so : Resolved) → so ≡ gathered setting ns
       → withBits so (bitsOf setting (n .keysyms)) (n .set) (n .clear) ≡ gathered setting (n ∷ ns)
   gathered-more n ns so e = ap (λ (r : Resolved). withBits r (bitsOf setting (n .keysyms)) (n .set) (n .clear)) e ∙ gathered-cons n ns
 
 -- the multi-click time plays no part
-timeless : (maps : List ℕ) (a b : ℕ) (ns : List Name) → gathered (lentSetting maps a) ns ≡ gathered (lentSetting maps b) ns
+timeless : (maps : List ℕ) (a b : ℕ) (ns : List ListedName) → gathered (lentSetting maps a) ns ≡ gathered (lentSetting maps b) ns
 unfolding gathered isUnmet hasBit
 timeless maps a b ns = refl
 
@@ -177,7 +177,7 @@ tested-asked maps e by limit hs hc g =
     ap (tested (e .set) (e .clear) (e .colon) (e .bang)) (g ∙ timeless maps 0 limit (namesOf e))
     ∙ tested-names (lentSetting maps limit) e hs hc
 
-pub gathered-below : (setting : Setting) (ns : List Name) (by : Resolved) → by ≡ gathered setting ns → (by .set < 8192) × (by .clear < 8192)
+pub gathered-below : (setting : Setting) (ns : List ListedName) (by : Resolved) → by ≡ gathered setting ns → (by .set < 8192) × (by .clear < 8192)
 unfolding gathered
 gathered-below setting ns by e = (
   rw (ap (λ (r : Resolved). r .set) e) (mask-below (λ k. any (λ n. n .set && hasBit setting n k) ns)),
@@ -193,7 +193,7 @@ asked-below setting e by q = (
 
 -- ---- An event without names
 
-abbrev namesFrom : ℕ → Keysyms → List Name
+abbrev namesFrom : ℕ → Keysyms → List ListedName
 namesFrom names k = namesOf (record { code = 0; set = 0; clear = 0; colon = false; clause = false; detail = Detail.Unspecified; count = 0; bang = false; names = names; keysyms = k })
 
 names-from : (e : KeptEvent) → namesOf e ≡ namesFrom (e .names) (e .keysyms)

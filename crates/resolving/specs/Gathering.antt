@@ -11,7 +11,7 @@ use Rattle.model.specs.Lists.{any}
 use Rattle.model.specs.Bytes.{inRange}
 use Rattle.model.specs.Modifiers.{mask}
 use Rattle.model.specs.Setting.{Setting}
-use Rattle.model.specs.Resolving.{Name, isBadMap, rowOf, keycodeHolds, hasBit, isUnmet}
+use Rattle.model.specs.Resolving.{ListedName, isBadMap, rowOf, keycodeHolds, hasBit, isUnmet}
 use Rattle.model.specs.Asked.{Test}
 use Rattle.keyboard.specs.Maps.{mapNumbers, modifierEntriesIn}
 use Rattle.resolving.specs.declared.Resolved.{Resolved}
@@ -34,7 +34,7 @@ unfoldable pub bitsOf : Setting → List ℕ → ℕ
 bitsOf setting keysyms = mask (λ k. any (keycodeHolds (setting .keyboard) keysyms) (rowOf (setting .modifiers) k))
 
 -- what names ask together
-unfoldable pub gathered : Setting → List Name → Resolved
+unfoldable pub gathered : Setting → List ListedName → Resolved
 gathered setting ns =
     record {
       set = mask (λ k. any (λ n. n .set && hasBit setting n k) ns);

@@ -8,7 +8,7 @@ use lib.Dec.{eqb, leb, ltb}
 use borrow.Author.Tests.{eqb-true}
 use Rattle.model.specs.Lists.{bytes, all, any, those}
 use Rattle.model.specs.Names.{nameOf, modifierEntries, modifierNamed, protocolEntries, synonymEntries, abbreviationEntries, typeEntries, typeNamed}
-use Rattle.model.specs.Modifiers.{isBit, isNamed}
+use Rattle.model.specs.Modifiers.{isBit, isMapped}
 use Rattle.model.specs.Named.{formBit}
 use Rattle.model.specs.Judging.{fixes}
 use Rattle.model.specs.Events as Written
@@ -82,7 +82,7 @@ well-named k e =
 -- so with the name of a form, by the form's bit
 abbrev formNamed : ℕ → Bool
 formNamed k =
-    isNamed (k % 4) (modifierNamed (longName (k % 4)))
+    isMapped (k % 4) (modifierNamed (longName (k % 4)))
     && (eqb (formBit (leb 4 k) (k % 4)) k
     && (isSome (longName (k % 4))
     && (all letterOrDigit (longName (k % 4)) && not (isLoneName (Written.Modifier.name false (longName (k % 4)))))))
@@ -91,10 +91,10 @@ forms-named : every 8 formNamed ≡ true
 unfolding every modifierNamed longName modifierEntries
 forms-named = refl
 
-is-named : (n : ℕ) (m : ModifierName) → isNamed n m ≡ true → m ≡ ModifierName.Named n
-is-named n (ModifierName.Bit k) e = let z : _≡_ {A = ℕ} 0 1 = cc in absurd (omega arith)
-is-named n (ModifierName.Named k) e = ap ModifierName.Named (eqb-true k n e)
-is-named n ModifierName.Unknown e = let z : _≡_ {A = ℕ} 0 1 = cc in absurd (omega arith)
+is-mapped : (n : ℕ) (m : ModifierName) → isMapped n m ≡ true → m ≡ ModifierName.Named n
+is-mapped n (ModifierName.Bit k) e = let z : _≡_ {A = ℕ} 0 1 = cc in absurd (omega arith)
+is-mapped n (ModifierName.Named k) e = ap ModifierName.Named (eqb-true k n e)
+is-mapped n ModifierName.Unknown e = let z : _≡_ {A = ℕ} 0 1 = cc in absurd (omega arith)
 
 pub record FormNamed (k : ℕ) : Type 0 where
   pub stands : modifierNamed (longName (k % 4)) ≡ ModifierName.Named (k % 4)
@@ -106,7 +106,7 @@ pub record FormNamed (k : ℕ) : Type 0 where
 pub form-named : (k : ℕ) → k < 8 → FormNamed k
 form-named k h =
     let e : formNamed k ≡ true = every-at 8 formNamed forms-named k h in
-    let a : Bool = isNamed (k % 4) (modifierNamed (longName (k % 4))) in
+    let a : Bool = isMapped (k % 4) (modifierNamed (longName (k % 4))) in
     let f : Bool = eqb (formBit (leb 4 k) (k % 4)) k in
     let b : Bool = isSome (longName (k % 4)) in
     let c : Bool = all letterOrDigit (longName (k % 4)) in
@@ -114,7 +114,7 @@ form-named k h =
     let e1 : (f && (b && (c && d))) ≡ true = both-right a (f && (b && (c && d))) e in
     let e2 : (b && (c && d)) ≡ true = both-right f (b && (c && d)) e1 in
     record {
-      stands = is-named (k % 4) (modifierNamed (longName (k % 4))) (both-left a (f && (b && (c && d))) e);
+      stands = is-mapped (k % 4) (modifierNamed (longName (k % 4))) (both-left a (f && (b && (c && d))) e);
       bit = eqb-true (formBit (leb 4 k) (k % 4)) k (both-left f (b && (c && d)) e1);
       some = both-left b (c && d) e2;
       letters = both-left c d (both-right b (c && d) e2);
