@@ -1,4 +1,4 @@
-//! The examples of READING-02.md for R-1, in its order, and those of READING.md that R-1 turns.
+//! Examples on each side of what R-1 leaves open (docs/DECISIONS.md), and those for document 01 that R-1 turns.
 
 mod common;
 
@@ -302,7 +302,7 @@ fn the_order_of_the_checks() {
     all_give(0, &[":Meta<Key>a:", "!:~Meta @0xffe1<KeyUp>:"]);
 }
 
-/// Those of READING.md that were 10.
+/// Those for document 01 that were 10.
 #[test]
 fn no_longer_refused_with_10() {
     all_give(

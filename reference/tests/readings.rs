@@ -1,4 +1,4 @@
-//! The examples of READING.md, in its order, but for those that R-1 turns (`names.rs`).
+//! Examples on each side of what document 01 leaves open (docs/DECISIONS.md), but for those that R-1 turns (`names.rs`).
 
 mod common;
 
