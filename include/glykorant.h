@@ -203,6 +203,9 @@ uint64_t tt_fresh(uint8_t *state, size_t state_length);
  * Refused with 1, 18, 12, 14, 13, 15, in this order. After a refusal, and after
  * an event whose type no production has, the state is unchanged; after any
  * other call it is the state for the next event.
+ * A motion event directly after another takes its place, so that one motion
+ * in a line matches any number of them, with a selection after each; a line
+ * with two motions side by side is never selected.
  */
 uint64_t tt_match(const uint8_t *table, size_t table_length,
                   const uint8_t *maps, size_t maps_length,

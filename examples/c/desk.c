@@ -1,17 +1,20 @@
-/* A quota desk in C: a click looks at a bucket, a double click grants space, and Meta Return does so too. */
+/* A quota desk in C: a click looks at a bucket, a double click grants space, Meta Return does so too, and a drag across the bar
+ * sets the cap where it ends. */
 #include "glykorant.h"
 
 #include <stdint.h>
 #include <stdio.h>
 #include <string.h>
 
-enum { KEY_PRESS = 2, BUTTON_PRESS = 4, BUTTON_RELEASE = 5, MULTI_CLICK_TIME = 200 };
-enum { RETURN = 36, META = 64, MOD1 = 3 }; /* two keycodes, and Mod1's bit and row */
+enum { KEY_PRESS = 2, BUTTON_PRESS = 4, BUTTON_RELEASE = 5, MOTION = 6, MULTI_CLICK_TIME = 200 };
+enum { RETURN = 36, META = 64, MOD1 = 3, BUTTON1 = 8 }; /* two keycodes; Mod1's bit and row, Button1's bit */
 
 static const char text[] =
     "<Btn1Down>(2): grant(space, \"10 GB\")\n"
     "<Btn1Down>:    look(bucket)\n"
-    "Meta<Key>Return: grant(space, \"1 GB\")\n";
+    "Meta<Key>Return: grant(space, \"1 GB\")\n"
+    "<Btn1Down>,<Btn1Motion>:          slide(bar)\n"
+    "<Btn1Down>,<Btn1Motion>,<Btn1Up>: set(cap)\n";
 
 static uint8_t table[TT_TABLE_LENGTH];
 static uint8_t state[TT_STATE_LENGTH];
@@ -35,20 +38,21 @@ static void put_maps(void)
     maps[TT_MAP_LENGTH + MOD1] = META;
 }
 
-/* A key or button event as the server sends it, least significant byte first. */
-static void input_event(uint8_t record[TT_RECORD_LENGTH], uint8_t code, uint8_t detail, uint8_t modifiers, uint32_t time)
+/* A key, button or motion event as the server sends it, least significant byte first. */
+static void input_event(uint8_t record[TT_RECORD_LENGTH], uint8_t code, uint8_t detail, uint16_t modifiers, uint32_t time)
 {
     memset(record, 0, TT_RECORD_LENGTH);
     record[0] = code;
     record[1] = detail;
-    record[28] = modifiers;
+    record[28] = (uint8_t)modifiers;
+    record[29] = (uint8_t)(modifiers >> 8);
     for (int i = 0; i < 4; i++)
         record[4 + i] = (uint8_t)(time >> (8 * i));
 }
 
 static const char *kind(uint8_t code)
 {
-    return code == KEY_PRESS ? "key" : code == BUTTON_PRESS ? "press" : "release";
+    return code == KEY_PRESS ? "key" : code == BUTTON_PRESS ? "press" : code == MOTION ? "motion" : "release";
 }
 
 /* A part of the text. The table is not merged, so every part is one of its first text. */
@@ -69,7 +73,7 @@ static void put_call(size_t production, size_t call)
 }
 
 /* Hears one event, and prints the calls of the production that it selects. */
-static void hear(uint8_t code, uint8_t detail, uint8_t modifiers, uint32_t time)
+static void hear(uint8_t code, uint8_t detail, uint16_t modifiers, uint32_t time)
 {
     uint8_t record[TT_RECORD_LENGTH];
     input_event(record, code, detail, modifiers, time);
@@ -106,5 +110,9 @@ int main(void)
     hear(BUTTON_RELEASE, 1, 0, 5040);
     hear(KEY_PRESS, RETURN, 0, 6000);
     hear(KEY_PRESS, RETURN, 1 << MOD1, 6100);
+    hear(BUTTON_PRESS, 1, 0, 7000);
+    for (uint32_t time = 7010; time <= 7030; time += 10)
+        hear(MOTION, 0, 1 << BUTTON1, time);
+    hear(BUTTON_RELEASE, 1, 1 << BUTTON1, 7040);
     return 0;
 }

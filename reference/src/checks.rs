@@ -9,7 +9,7 @@ use crate::merging::merge;
 use crate::numbers::Number;
 use crate::random::Random;
 use crate::records::Event;
-use crate::selection::{tested_bits, Matcher};
+use crate::selection::{tested_bits, Matcher, Step};
 use crate::statistics::Statistics;
 use crate::table::{Directive, Table};
 use crate::writing::write;
@@ -161,36 +161,57 @@ fn ensure(holds: bool, message: impl Fn() -> String) -> Checked<()> {
     }
 }
 
-/// What one call gave, and the first and last event of the context after it.
+/// What one call gave.
 #[derive(Clone, Debug, PartialEq, Eq)]
 pub struct Outcome {
     pub number: Number,
     pub selected: Option<usize>,
-    pub context: Option<(usize, usize)>,
+    /// The events of the context after it, by their numbers over all heard ones. The replaced ones
+    /// have theirs, so that "a replaced event belongs to the selections it ended and to no later
+    /// one".
+    pub context: Vec<usize>,
+    /// What the event did, if it was heard.
+    pub step: Option<Step>,
 }
 
-impl Outcome {
-    /// How many events the context keeps.
-    pub fn kept(&self) -> usize {
-        self.context.map_or(0, |(start, end)| end - start + 1)
-    }
+/// The outcomes of a list of calls, with the events that were heard and the runs of the history.
+pub struct Outcomes {
+    pub calls: Vec<Outcome>,
+    /// All heard events, the replaced ones too.
+    pub heard: Vec<Event>,
+    /// How many heard events each place of the history has held.
+    pub runs: Vec<usize>,
 }
 
-fn outcomes(table: &Table, list: &EventList, calls: &[RecordCall]) -> (Vec<Outcome>, Vec<Event>) {
-    let mut matcher = Matcher::new(table, list.maps(), list.multi_click_time);
-    let outcome = |call: &RecordCall| {
-        let (number, selected) = matcher.call(&call.record, call.order);
-        let context = matcher
-            .context()
-            .map(|range| (*range.start(), *range.end()));
-        Outcome {
-            number,
-            selected,
-            context,
+impl Outcomes {
+    fn of(table: &Table, list: &EventList, calls: &[RecordCall]) -> Outcomes {
+        let mut matcher = Matcher::new(table, list.maps(), list.multi_click_time);
+        let mut heard = Vec::new();
+        let outcome = |call: &RecordCall| {
+            let (number, selected) = matcher.call(&call.record, call.order);
+            let step = matcher.step();
+            if step.is_some() {
+                heard.extend(matcher.history().last());
+            }
+            Outcome {
+                number,
+                selected,
+                context: matcher.context().to_vec(),
+                step,
+            }
+        };
+        Outcomes {
+            calls: calls.iter().map(outcome).collect(),
+            heard,
+            runs: matcher.runs().collect(),
         }
-    };
-    let outcomes = calls.iter().map(outcome).collect();
-    (outcomes, matcher.history().to_vec())
+    }
+
+    /// The events that each selection was made on.
+    pub fn selections(&self) -> impl Iterator<Item = &[usize]> {
+        let selecting = self.calls.iter().filter(|call| call.selected.is_some());
+        selecting.map(|call| call.context.as_slice())
+    }
 }
 
 fn check_list(
@@ -199,21 +220,22 @@ fn check_list(
     random: &mut Random,
     statistics: &mut Statistics,
 ) -> Checked<()> {
-    let (outcomes, history) = outcomes(table, list, &list.calls);
+    let outcomes = Outcomes::of(table, list, &list.calls);
     check_contexts(&outcomes)?;
     check_selections(&outcomes)?;
     check_untested_bits(table, list, random, &outcomes)?;
     check_moved_times(table, list, random, &outcomes)?;
-    statistics.count_outcomes(table, &outcomes, &history);
+    statistics.count_outcomes(table, &outcomes);
+    statistics.count_motion(&outcomes);
     statistics.count_names(table, list.maps());
-    statistics.count_clicks(&history, list.multi_click_time);
+    statistics.count_clicks(&outcomes.heard, list.multi_click_time);
     Ok(())
 }
 
 /// The context never keeps more than 24 events, so 15 is never given.
-fn check_contexts(outcomes: &[Outcome]) -> Checked<()> {
-    for outcome in outcomes {
-        let few = outcome.kept() <= limits::EVENTS_IN_PRODUCTION;
+fn check_contexts(outcomes: &Outcomes) -> Checked<()> {
+    for outcome in &outcomes.calls {
+        let few = outcome.context.len() <= limits::EVENTS_IN_PRODUCTION;
         ensure(few && outcome.number != Number::ContextTooLong, || {
             format!("the context is too long: {outcome:?}")
         })?;
@@ -221,23 +243,16 @@ fn check_contexts(outcomes: &[Outcome]) -> Checked<()> {
     Ok(())
 }
 
-/// The stretches that selections were made on.
-pub fn selections(outcomes: &[Outcome]) -> Vec<(usize, usize)> {
-    let selecting = outcomes.iter().filter(|outcome| outcome.selected.is_some());
-    selecting.filter_map(|outcome| outcome.context).collect()
-}
-
 /// Any two selections' events start at the same event or are disjoint.
-fn check_selections(outcomes: &[Outcome]) -> Checked<()> {
-    let selections = selections(outcomes);
-    let selecting = outcomes.iter().filter(|outcome| outcome.selected.is_some());
-    ensure(selecting.count() == selections.len(), || {
-        "a selection without a context".to_string()
-    })?;
+fn check_selections(outcomes: &Outcomes) -> Checked<()> {
+    let selections: Vec<&[usize]> = outcomes.selections().collect();
     for (at, first) in selections.iter().enumerate() {
+        ensure(!first.is_empty(), || {
+            "a selection without a context".to_string()
+        })?;
         for second in &selections[at + 1..] {
-            let apart = first.1 < second.0 || second.1 < first.0;
-            ensure(first.0 == second.0 || apart, || {
+            let disjoint = || first.iter().all(|event| !second.contains(event));
+            ensure(first[0] == second[0] || disjoint(), || {
                 format!("selections on {first:?} and {second:?}")
             })?;
         }
@@ -251,7 +266,7 @@ fn check_untested_bits(
     table: &Table,
     list: &EventList,
     random: &mut Random,
-    expected: &[Outcome],
+    expected: &Outcomes,
 ) -> Checked<()> {
     let untested = match list.maps().check() {
         Ok(()) => !tested_bits(table, list.maps()),
@@ -268,7 +283,7 @@ fn check_moved_times(
     table: &Table,
     list: &EventList,
     random: &mut Random,
-    expected: &[Outcome],
+    expected: &Outcomes,
 ) -> Checked<()> {
     let by = random.card32();
     check_alike(table, list, expected, |call| call.with_time_moved(by))
@@ -279,12 +294,12 @@ fn check_moved_times(
 fn check_alike(
     table: &Table,
     list: &EventList,
-    expected: &[Outcome],
+    expected: &Outcomes,
     change: impl FnMut(&RecordCall) -> RecordCall,
 ) -> Checked<()> {
     let changed: Vec<RecordCall> = list.calls.iter().map(change).collect();
-    let (found, _) = outcomes(table, list, &changed);
-    for (at, (found, expected)) in found.iter().zip(expected).enumerate() {
+    let found = Outcomes::of(table, list, &changed);
+    for (at, (found, expected)) in found.calls.iter().zip(&expected.calls).enumerate() {
         ensure(found == expected, || {
             format!("call {at} from {expected:?} to {found:?}")
         })?;

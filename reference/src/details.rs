@@ -63,7 +63,11 @@ const BUTTONS: &[(&str, u32)] = &[
     ("Button5", 5),
 ];
 
-const MOTIONS: &[(&str, u32)] = &[("Normal", 0), ("Hint", 1)];
+/// The details of a motion that have names.
+pub const NORMAL: u32 = 0;
+pub const HINT: u32 = 1;
+
+const MOTIONS: &[(&str, u32)] = &[("Normal", NORMAL), ("Hint", HINT)];
 
 const MODES: &[(&str, u32)] = &[
     ("Normal", 0),

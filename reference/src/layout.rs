@@ -478,48 +478,68 @@ pub fn decode_maps(bytes: &[u8]) -> (Vec<u32>, &[u8]) {
 }
 
 /// What a matcher state stands for: the events of the open context, and how many of them lie at
-/// or before the last selection.
+/// or before the last selection; or, with none open, the events that a motion in the last one's
+/// place may open one with.
 #[derive(Clone, Debug, Default, PartialEq, Eq)]
-pub struct Context {
+pub struct State {
     pub events: Vec<Event>,
     pub selected: usize,
+    pub open: bool,
+}
+
+impl State {
+    /// What "open" asks of the rest: an open context has an event; with none open nothing is
+    /// selected, and what is kept ends in a motion.
+    fn open_is_whole(&self) -> bool {
+        match self.open {
+            true => !self.events.is_empty(),
+            false => self.selected == 0 && self.events.last().is_none_or(Event::is_motion),
+        }
+    }
 }
 
 const EVENT_BYTES: usize = 8;
 const STATE_HEADER: usize = STATE_BYTES - limits::EVENTS_IN_PRODUCTION * EVENT_BYTES;
 
 /// The bytes of a matcher state.
-pub fn encode_state(context: &Context) -> Vec<u8> {
-    let kept = context.events.len();
-    let header = [kept, context.selected, usize::from(kept > 0), 0];
+pub fn encode_state(state: &State) -> Vec<u8> {
+    let header = [
+        state.events.len(),
+        state.selected,
+        usize::from(state.open),
+        0,
+    ];
     let mut bytes: Vec<u8> = header
         .into_iter()
         .flat_map(|value| (value as u16).to_le_bytes())
         .collect();
-    for event in &context.events {
+    for event in &state.events {
         bytes.extend([event.code, event.detail]);
         bytes.extend(event.state.to_le_bytes());
         bytes.extend(event.time.to_le_bytes());
     }
-    assert!(bytes.len() <= STATE_BYTES, "a context keeps 24 events");
+    assert!(bytes.len() <= STATE_BYTES, "a state keeps 24 events");
     bytes.resize(STATE_BYTES, 0);
     bytes
 }
 
 /// What the bytes of a state stand for, if they are whole. Bytes past a state are not read.
-pub fn decode_state(bytes: &[u8]) -> Option<Context> {
+pub fn decode_state(bytes: &[u8]) -> Option<State> {
     let word = |at: usize| usize::from(u16::from_le_bytes([bytes[at], bytes[at + 1]]));
     let kept = within(word(0), 0, limits::EVENTS_IN_PRODUCTION)?;
     let selected = within(word(2), 0, kept)?;
-    require(word(4) == usize::from(kept > 0) && word(6) == 0)?;
+    let open = within(word(4), 0, 1)? == 1;
+    require(word(6) == 0)?;
     let slots = &bytes[STATE_HEADER..STATE_BYTES];
     let (used, unused) = slots.split_at(kept * EVENT_BYTES);
     require(unused.iter().all(|&byte| byte == 0))?;
     let events: Option<Vec<Event>> = used.chunks(EVENT_BYTES).map(slot).collect();
-    Some(Context {
+    let state = State {
         events: events?,
         selected,
-    })
+        open,
+    };
+    state.open_is_whole().then_some(state)
 }
 
 fn slot(bytes: &[u8]) -> Option<Event> {

@@ -1,6 +1,6 @@
 //! A second implementation of X translation tables, written from document 01 ("01" below),
-//! request R-1 of document 02 ("02"), the readings of both and Appendix B ("001"), as plainly as
-//! they read.
+//! requests of document 02 ("02"), the readings of both and Appendix B ("001"), as
+//! plainly as they read.
 //!
 //! Each module holds one section, or one part of a section, of 01, or what a request adds.
 

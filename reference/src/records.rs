@@ -37,6 +37,13 @@ pub struct Event {
     pub state: u16,
 }
 
+impl Event {
+    /// "Any two of code 6 count, whatever state or detail."
+    pub fn is_motion(&self) -> bool {
+        self.code == names::MOTION_NOTIFY
+    }
+}
+
 #[derive(Clone, Copy)]
 enum Order {
     Little,

@@ -1,6 +1,6 @@
 //! What generated cases were, so that one can see that they reach all forms and limits.
 
-use crate::checks::{selections, Outcome};
+use crate::checks::Outcomes;
 use crate::generate::limits::{Aim, Limit};
 use crate::modifiers::{ListedName, STANDARD};
 use crate::names;
@@ -66,6 +66,21 @@ pub struct Statistics {
     /// Steps of the clock over its wrap, between heard events and inside selections.
     pub wraps: usize,
     pub selections_over_wrap: usize,
+    /// Runs of more than one motion, each directly after another in the history, and the calls
+    /// that heard them.
+    pub motion_runs: usize,
+    pub calls_in_runs: usize,
+    pub longest_run: usize,
+    pub replaced: usize,
+    /// Selections at a motion that was then replaced, and at one that replaced another.
+    pub selections_replaced: usize,
+    pub selections_replacing: usize,
+    /// Marks that fell back, and contexts that were closed, since a motion was replaced.
+    pub starts_fallen: usize,
+    pub selections_fallen: usize,
+    pub contexts_closed: usize,
+    /// Starts found before the event with no context open.
+    pub opened_before: usize,
 }
 
 impl Statistics {
@@ -155,28 +170,52 @@ impl Statistics {
         }
     }
 
-    pub fn count_outcomes(&mut self, table: &Table, outcomes: &[Outcome], history: &[Event]) {
-        for outcome in outcomes {
+    pub fn count_outcomes(&mut self, table: &Table, outcomes: &Outcomes) {
+        let mut latest_start = 0;
+        for outcome in &outcomes.calls {
             self.calls[outcome.number.index()] += 1;
             if let Some(selected) = outcome.selected {
                 let mut events = table.productions[selected].events.iter();
                 self.named_selections += usize::from(events.any(|spec| spec.test.has_names()));
             }
-            self.longest_context = self.longest_context.max(outcome.kept());
+            self.longest_context = self.longest_context.max(outcome.context.len());
+            if let [start, _, ..] = outcome.context[..] {
+                self.later_starts += usize::from(start != latest_start);
+            }
+            latest_start = outcome.context.first().copied().unwrap_or(latest_start);
         }
-        let contexts = outcomes.iter().filter_map(|outcome| outcome.context);
-        let mut latest_start = 0;
-        for (start, end) in contexts {
-            self.later_starts += usize::from(start != latest_start && start < end);
-            latest_start = start;
-        }
-        self.heard += history.len();
-        self.wraps += wraps(history);
-        for (start, end) in selections(outcomes) {
+        self.heard += outcomes.heard.len();
+        self.wraps += wraps(&outcomes.heard);
+        for selection in outcomes.selections() {
+            let events: Vec<Event> = selection.iter().map(|at| outcomes.heard[at - 1]).collect();
             self.selections += 1;
-            self.long_selections += usize::from(end > start);
-            let over_wrap = wraps(&history[start - 1..end]) > 0;
-            self.selections_over_wrap += usize::from(over_wrap);
+            self.long_selections += usize::from(events.len() > 1);
+            self.selections_over_wrap += usize::from(wraps(&events) > 0);
+        }
+    }
+
+    /// What came of runs of motions.
+    pub fn count_motion(&mut self, outcomes: &Outcomes) {
+        let runs = outcomes.runs.iter().filter(|&&run| run > 1);
+        for &run in runs {
+            self.motion_runs += 1;
+            self.calls_in_runs += run;
+            self.longest_run = self.longest_run.max(run);
+        }
+        let heard = outcomes.calls.iter().filter_map(|call| {
+            let step = call.step?;
+            Some((step, call.selected.is_some()))
+        });
+        let mut selected_before = false;
+        for (step, selected) in heard {
+            self.replaced += usize::from(step.replaced);
+            self.selections_replaced += usize::from(step.replaced && selected_before);
+            self.selections_replacing += usize::from(step.replaced && selected);
+            self.starts_fallen += usize::from(step.start_fell);
+            self.selections_fallen += usize::from(step.selection_fell);
+            self.contexts_closed += usize::from(step.closed);
+            self.opened_before += usize::from(step.opened_before);
+            selected_before = selected;
         }
     }
 }
@@ -246,6 +285,16 @@ impl fmt::Display for Statistics {
         writeln!(out, "  just in time    {}", self.just_in_time)?;
         writeln!(out, "  just too late   {}", self.just_too_late)?;
         writeln!(out, "  wraps           {}", self.wraps)?;
+        writeln!(out, "  motion runs     {}", self.motion_runs)?;
+        writeln!(out, "    calls in them {}", self.calls_in_runs)?;
+        writeln!(out, "    longest       {}", self.longest_run)?;
+        writeln!(out, "  replaced        {}", self.replaced)?;
+        writeln!(out, "    had selected  {}", self.selections_replaced)?;
+        writeln!(out, "    then selected {}", self.selections_replacing)?;
+        writeln!(out, "    starts fell   {}", self.starts_fallen)?;
+        writeln!(out, "    selected fell {}", self.selections_fallen)?;
+        writeln!(out, "    closed        {}", self.contexts_closed)?;
+        writeln!(out, "  opened before   {}", self.opened_before)?;
         write!(out, "  longest context {}", self.longest_context)
     }
 }

@@ -1,16 +1,16 @@
-//! The bytes of tables and states, and the matcher that keeps the open context alone.
+//! The bytes of tables and states, and the matcher that keeps what a state does.
 
 mod common;
 
 use common::*;
 use glykorant_reference::generate::{self, Case};
-use glykorant_reference::layout::{self, Context, STATE_BYTES, TABLE_BYTES};
+use glykorant_reference::layout::{self, State, STATE_BYTES, TABLE_BYTES};
 use glykorant_reference::{merge, write, BoundedMatcher, Event, Maps, Matcher, Number, Table};
 
 #[test]
 fn an_empty_table_and_a_fresh_state_are_zeros() {
     assert_eq!(layout::encode(&Table::default()), [0; TABLE_BYTES]);
-    assert_eq!(layout::encode_state(&Context::default()), [0; STATE_BYTES]);
+    assert_eq!(layout::encode_state(&State::default()), [0; STATE_BYTES]);
 }
 
 #[test]
@@ -191,35 +191,79 @@ fn maps_read_back() {
     );
 }
 
-#[test]
-fn ranges_of_a_state() {
-    let event = |code, detail, time, state| Event {
+fn slot(code: u8, detail: u8, time: u32, state: u16) -> Event {
+    Event {
         code,
         detail,
         time,
         state,
-    };
-    let context = Context {
-        events: vec![event(2, 8, u32::MAX, 8191), event(4, 0, 0, 0)],
+    }
+}
+
+/// Whether the bytes of a state are whole after a change of one of them.
+fn whole_with(state: &State, at: usize, value: u8) -> bool {
+    let mut bytes = layout::encode_state(state);
+    bytes[at] = value;
+    layout::decode_state(&bytes).is_some()
+}
+
+#[test]
+fn ranges_of_a_state() {
+    let state = State {
+        events: vec![slot(2, 8, u32::MAX, 8191), slot(4, 0, 0, 0)],
         selected: 1,
+        open: true,
     };
-    let bytes = layout::encode_state(&context);
-    assert_eq!(layout::decode_state(&bytes), Some(context));
-    let whole = |at: usize, value: u8| {
-        let mut bytes = bytes.clone();
-        bytes[at] = value;
-        layout::decode_state(&bytes).is_some()
-    };
+    let bytes = layout::encode_state(&state);
+    assert_eq!(layout::decode_state(&bytes), Some(state.clone()));
+    let whole = |at: usize, value: u8| whole_with(&state, at, value);
     assert!(!whole(0, 1) && !whole(0, 3) && whole(2, 2) && !whole(2, 3));
-    assert!(!whole(4, 0) && !whole(4, 2) && !whole(6, 1) && !whole(1, 1));
+    assert!(!whole(4, 0) && !whole(4, 2) && !whole(5, 1) && !whole(6, 1) && !whole(1, 1));
     assert!(!whole(8, 1) && whole(8, 34) && !whole(8, 35) && !whole(9, 7));
     assert!(whole(11, 0) && !whole(11, 32) && whole(12, 1) && whole(17, 255));
     assert!(!whole(24, 1) && !whole(199, 1));
 }
 
+/// With no context open nothing is selected, and the last kept event is a motion.
+#[test]
+fn ranges_of_a_state_with_no_context_open() {
+    let state = State {
+        events: vec![slot(4, 1, 5, 0), slot(6, 0, 7, 256)],
+        selected: 0,
+        open: false,
+    };
+    let bytes = layout::encode_state(&state);
+    assert_eq!(bytes[..8], [2, 0, 0, 0, 0, 0, 0, 0]);
+    assert_eq!(layout::decode_state(&bytes), Some(state.clone()));
+    let whole = |at: usize, value: u8| whole_with(&state, at, value);
+    assert!(!whole(2, 1) && !whole(2, 2) && whole(4, 1));
+    assert!(whole(8, 34) && !whole(16, 5) && !whole(16, 7) && whole(16, 6));
+    // No event: none is open, and none is selected.
+    let fresh = State::default();
+    assert_eq!(layout::decode_state(&[0; STATE_BYTES]), Some(fresh.clone()));
+    assert!(!whole_with(&fresh, 4, 1) && !whole_with(&fresh, 2, 1) && !whole_with(&fresh, 0, 1));
+    // 24 events, open or not.
+    let full = |code: u8, open: bool| State {
+        events: vec![slot(code, 8, 0, 0); 24],
+        selected: 0,
+        open,
+    };
+    for (state, whole) in [
+        (full(6, false), true),
+        (full(6, true), true),
+        (full(4, true), true),
+        (full(4, false), false),
+    ] {
+        let bytes = layout::encode_state(&state);
+        assert_eq!(layout::decode_state(&bytes).is_some(), whole);
+        assert!(!whole_with(&state, 0, 25));
+    }
+}
+
 #[test]
 fn the_bounded_matcher_agrees() {
     let mut selections = 0;
+    let mut kept_closed = 0;
     for number in 0..20_000 {
         let Case::Match { old, text, list } = generate::case(7, number) else {
             continue;
@@ -227,20 +271,20 @@ fn the_bounded_matcher_agrees() {
         let table = generate::table(old.as_ref(), &text).unwrap();
         let (maps, time) = (list.maps(), list.multi_click_time);
         let mut matcher = Matcher::new(&table, maps, time);
-        let mut bounded = BoundedMatcher::new(&table, maps, time, Context::default());
+        let mut bounded = BoundedMatcher::new(&table, maps, time, State::default());
         for call in &list.calls {
             let expected = matcher.call(&call.record, call.order);
             assert_eq!(bounded.call(&call.record, call.order), expected);
-            assert_eq!(*bounded.kept(), matcher.kept());
+            assert!(matcher.is_kept_by(bounded.kept()));
             selections += usize::from(expected.1.is_some());
-            // A matcher that starts from what a state keeps goes on alike.
-            let resumed = layout::decode_state(&layout::encode_state(&matcher.kept())).unwrap();
-            assert_eq!(resumed, matcher.kept());
-            matcher = match number % 2 {
-                0 => matcher,
-                _ => Matcher::resumed(&table, maps, time, resumed),
-            };
+            kept_closed += usize::from(!bounded.kept().open && bounded.kept().events.len() > 1);
+            // The state's bytes are all that it goes on by.
+            let state = layout::decode_state(&layout::encode_state(bounded.kept())).unwrap();
+            assert_eq!(state, *bounded.kept());
+            if number % 2 == 1 {
+                bounded = BoundedMatcher::new(&table, maps, time, state);
+            }
         }
     }
-    assert!(selections > 10_000);
+    assert!(selections > 10_000 && kept_closed > 1000);
 }

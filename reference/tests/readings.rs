@@ -1,4 +1,4 @@
-//! Examples on each side of what document 01 leaves open (docs/DECISIONS.md), but for those that R-1 turns (`names.rs`).
+//! Examples on each side of what document 01 leaves open (docs/DECISIONS.md), but for those that turn (`names.rs`, `motion.rs`).
 
 mod common;
 
@@ -275,16 +275,6 @@ fn a_selection_does_not_close_the_context() {
         selected(text, &[press(1, 0), release(1, 0)]),
         [Some(0), Some(1)]
     );
-}
-
-#[test]
-fn motion_matches_one_for_one() {
-    let motion = record(MOTION_NOTIFY, 0, 0, 0);
-    let text = "<Btn1Down>,<Motion>,<Btn1Up>:x()";
-    let once = [press(1, 0), motion.clone(), release(1, 0)];
-    assert_eq!(selected(text, &once), [None, None, Some(0)]);
-    let twice = [press(1, 0), motion.clone(), motion, release(1, 0)];
-    assert_eq!(selected(text, &twice), [None; 4]);
 }
 
 #[test]

@@ -56,4 +56,17 @@ fn generated_cases() {
     assert!(statistics.wraps >= 1000);
     assert!(statistics.selections_over_wrap >= 1000);
     assert_eq!(statistics.longest_context, EVENTS_IN_PRODUCTION);
+
+    let calls: usize = statistics.calls.iter().sum();
+    assert!(3 * statistics.calls_in_runs >= calls);
+    for of_runs in [
+        statistics.selections_replaced,
+        statistics.selections_replacing,
+        statistics.starts_fallen,
+        statistics.selections_fallen,
+        statistics.contexts_closed,
+    ] {
+        assert!(of_runs >= 50_000);
+    }
+    assert!(statistics.opened_before >= 1000);
 }

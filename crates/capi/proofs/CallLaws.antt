@@ -26,9 +26,10 @@ use Rattle.tables.specs.Whole.{whole}
 use Rattle.tables.proofs.Positions.{cond-both}
 use Rattle.states.specs.declared.State.{State}
 use Rattle.states.specs.State.{wholeState, keptOf}
-use Rattle.matcher.specs.declared.Answer.{Answer}
+use Rattle.acting.specs.declared.Answer.{Answer}
 use Rattle.matcher.proofs.MatchLaws.{past-all}
-use Rattle.matcher.specs.Match.{stepAnswer, refusedWith, tooShort, matchNumber, callAnswer}
+use Rattle.acting.specs.Act.{stepAnswer, refusedWith}
+use Rattle.matcher.specs.Match.{tooShort, matchNumber, callAnswer}
 use Rattle.states.proofs.StateLaws.{state-facts}
 use Rattle.capi.specs.State.{stateLength, store, load}
 use Rattle.capi.specs.Match.{stored, keeps, leftBy, matchedOn, stateLeft}

@@ -24,9 +24,10 @@ use Rattle.machine.proofs.Viewed.{viewed}
 use Rattle.tables.specs.Reading.{decode}
 use Rattle.tables.proofs.Positions.{cond-both}
 use Rattle.states.specs.declared.State.{State}
-use Rattle.matcher.specs.declared.Answer.{Answer}
+use Rattle.acting.specs.declared.Answer.{Answer}
 use Rattle.states.specs.State.{wholeState, freshState, keptOf, stateKeeping}
-use Rattle.matcher.specs.Match.{stepAnswer, refusedWith, matchNumber, callAnswer}
+use Rattle.acting.specs.Act.{stepAnswer, refusedWith}
+use Rattle.matcher.specs.Match.{matchNumber, callAnswer}
 use Rattle.states.proofs.StateLaws.{state-facts, state-kept, fresh-whole}
 use Rattle.matcher.proofs.NextLaws.{step-whole}
 use Rattle.claims.specs.Matching.{matcherOn}

@@ -2,9 +2,9 @@
 use Prim.Native.Nat.{ℕ, _+_, _*_, _≤_, _<_}
 use native.Mathlib.Omega.{arith}
 use borrow.Author.Tests.{lt-ltb, le-ltb, eqb-true}
-use mathlib.Core.Path.{_≡_, refl, sym, ap, subst, _∙_}
-use mathlib.Core.Bool.{Bool, true, false}
-use mathlib.Core.List.{List, [], _∷_}
+use mathlib.Core.Path.{_≡_, sym, ap, subst, _∙_}
+use mathlib.Core.Bool.{true}
+use mathlib.Core.List.{List}
 use mathlib.Core.Option.{Option, none, some}
 use lib.Dec.{eqb}
 use lib.ListN.{length}
@@ -19,15 +19,16 @@ use Rattle.model.specs.Demand.{MatchCall, selection}
 use Rattle.model.specs.declared.events.Event.{Event}
 use Rattle.model.specs.declared.answers.RecordRead.{RecordRead}
 use Rattle.model.specs.declared.answers.Matched.{Matched}
-use Rattle.machine.specs.Kept.{Kept, Step, moved, chosenIn, choice, stepNumber, refuse, dropEvent, hear, act, stepped}
+use Rattle.machine.specs.Kept.{Kept, Step, left, moved, chosenIn, choice, stepNumber, refuse, dropEvent, hear, act, stepped}
 use Rattle.tables.specs.Reading.{decode, productionEntry, productionTotal}
 use Rattle.tables.specs.Whole.{whole}
 use Rattle.tables.proofs.Positions.{cond-both}
 use Rattle.table_check.proofs.WholeFacts.{facts-of-whole}
 use Rattle.states.specs.declared.State.{State}
-use Rattle.matcher.specs.declared.Answer.{Answer}
+use Rattle.acting.specs.declared.Answer.{Answer}
 use Rattle.states.specs.State.{keptOf}
-use Rattle.matcher.specs.Match.{matchAnswer, stepAnswer, refusedWith, matchNumber, callAnswer}
+use Rattle.acting.specs.Act.{stepAnswer, refusedWith}
+use Rattle.matcher.specs.Match.{matchAnswer, matchNumber, callAnswer}
 use Rattle.matcher.proofs.MatchLaws.{past-all}
 use Rattle.capi.specs.State.{load}
 use Rattle.capi.specs.Match.{stored, freshNumber, freshBytes, selectionMark, matchedWord, leftBy, answerOn, matchedOn, stateLeft}
@@ -126,16 +127,17 @@ module _ (t : Table) (setting : Setting) (few : length (t .productions) ≤ 64) 
   selection-few none b = omega arith
   selection-few (some p) b = omega arith
 
-  chosen-few : (xs : List Event) → Below 64 (chosenIn (readingOf t setting) xs)
-  chosen-few [] = tt
-  chosen-few (x ∷ xs) = earliest-below (isWholeSequence setting (x ∷ xs)) 0 64 (t .productions) (omega arith)
+  chosen-few : (k : Kept Event) → Below 64 (chosenIn (readingOf t setting) k)
+  chosen-few k =
+      cond-both (Below 64) (k .isOpen) (readingOf t setting .chosen (k .events)) none
+      (λ _. earliest-below (isWholeSequence setting (k .events)) 0 64 (t .productions) (omega arith)) (λ _. tt)
 
   act-few : (k : Kept Event) (r : RecordRead) → markOf (act t setting k r .answer) ≤ 64
   unfolding choice
   act-few k (RecordRead.Refused n) = omega arith
   act-few k (RecordRead.Event x) =
       cond-both (λ (s : Step). markOf (s .answer) ≤ 64) (readingOf t setting .known x) (hear t setting k x) (dropEvent t setting k)
-      (λ _. selection-few (choice (readingOf t setting) k x) (chosen-few (moved (readingOf t setting) k x .events)))
+      (λ _. selection-few (choice (readingOf t setting) k x) (chosen-few (moved (readingOf t setting) (left (readingOf t setting) k x) x)))
       (λ _. omega arith)
 
   step-few : (k : Kept Event) (c : MatchCall) → markOf (stepped t setting k c .answer) ≤ 64

@@ -9,7 +9,7 @@ use Rattle.model.specs.Numbers.{noRefusal, shortBuffer, matchedNumber, matchedS
 use Rattle.model.specs.Setting.{Setting}
 use Rattle.model.specs.declared.answers.Matched.{Matched}
 use Rattle.states.specs.declared.State.{State}
-use Rattle.matcher.specs.declared.Answer.{Answer}
+use Rattle.acting.specs.declared.Answer.{Answer}
 use Rattle.states.specs.State.{freshState}
 use Rattle.matcher.specs.Match.{matchAnswer}
 use Rattle.capi.specs.State.{stateLength, store, load}

@@ -34,7 +34,7 @@ store s = wordBytes (marksOf s) ++ take eventLength (s .events)
 unfoldable pub marksRead : List ℕ → Bool
 marksRead l = leb (wordAt l 2) 1 && eqb (wordAt l 3) 0
 
--- more events than a context keeps: a state that has them is not whole
+-- more events than are ever kept: a state that has them is not whole
 abbrev pub tooMany : ℕ
 tooMany = 25
 

@@ -25,8 +25,9 @@ use Rattle.tables.proofs.Theorems.{whole-holds, whole-length, whole-encode, dec
 use Rattle.states.specs.declared.State.{State}
 use Rattle.states.specs.State.{keptOf, stateKeeping, wholeState}
 use Rattle.states.proofs.StateLaws.{state-facts, kept-bounded, kept-state, state-kept, fresh-whole, fresh-kept}
-use Rattle.matcher.specs.declared.Answer.{Answer}
-use Rattle.matcher.specs.Match.{stepAnswer, refusedWith, tooShort, matchNumber, callAnswer}
+use Rattle.acting.specs.declared.Answer.{Answer}
+use Rattle.acting.specs.Act.{stepAnswer, refusedWith}
+use Rattle.matcher.specs.Match.{tooShort, matchNumber, callAnswer}
 use Rattle.matcher.proofs.NextLaws.{step-whole}
 use Rattle.claims.specs.Matching.{matcherOn, Demand3OnWhole, Demand3Encoded}
 

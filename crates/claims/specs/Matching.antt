@@ -1,5 +1,5 @@
 -- Demand 3, about the matcher that runs: its calls are made on the bytes of a table, and its states are the values that it
--- hands back. `Demand3` and what it speaks of, the numbered history, its contexts and selections, are in
+-- hands back. `Demand3` and what it speaks of, the steps over every heard event, contexts and selections, are in
 -- crates/model/specs/Demand and Selection; `matchAnswer` is what the contract of `match_event` says, for all input.
 use Prim.Native.Nat.{ℕ}
 use mathlib.Core.Path.{_≡_}

@@ -1,5 +1,5 @@
-// A quota desk: a click looks at a bucket, a double click grants space, and so does Ctrl G; Meta G takes it back. A recorded run
-// of events is matched against the table, and each call that is selected is printed. The third click does not pair with the
+// A quota desk: a click looks at a bucket, a double click grants space, and so does Ctrl G; Meta G takes it back; a drag slides the
+// bar, and where it ends the cap is set. A recorded run of events is matched against the table, and each call that is selected is printed. The third click does not pair with the
 // second, two clicks across the wrap of the server's 32-bit clock pair only where they are quick, Caps Lock changes nothing, and
 // Meta is whichever modifier the keyboard has it on.
 use libc::STDOUT_FILENO;
@@ -15,6 +15,11 @@ const KEY_PRESS: u8 = 2;
 const BUTTON_PRESS: u8 = 4;
 
 const BUTTON_RELEASE: u8 = 5;
+
+const MOTION: u8 = 6;
+
+// The state's second byte where Button1 is down.
+const BUTTON1: u8 = 1;
 
 // The keycodes of G and of Meta on these keyboards.
 const KEYCODE_G: u8 = 42;
@@ -53,6 +58,13 @@ fn record(code: u8, detail: u8, modifiers: u8, time: u32) -> [u8; 32] {
     r[6] = (time / 65536 % 256) as u8;
     r[7] = (time / 16777216 % 256) as u8;
     r[28] = modifiers;
+    r
+}
+
+// A motion with Button1 down.
+fn motion(time: u32) -> [u8; 32] {
+    let mut r = record(MOTION, 0, NONE, time);
+    r[29] = BUTTON1;
     r
 }
 
@@ -155,13 +167,25 @@ fn with_caps_lock(table: &[u8], text: &[u8], s: State) -> State {
     click(table, text, s, LOCK, 9300, b"click at 9300, Caps Lock on")
 }
 
+// One motion in a line stands for any number of them.
+fn drag(table: &[u8], text: &[u8], s: State) -> State {
+    let press = record(BUTTON_PRESS, 1, NONE, 20000);
+    let release = record(BUTTON_RELEASE, 1, NONE, 20040);
+    let s = hear(table, text, MOD1_ROW, s, press, b"press at 20000");
+    let s = hear(table, text, MOD1_ROW, s, motion(20010), b"motion at 20010");
+    let s = hear(table, text, MOD1_ROW, s, motion(20020), b"motion at 20020");
+    let s = hear(table, text, MOD1_ROW, s, motion(20030), b"motion at 20030");
+    hear(table, text, MOD1_ROW, s, release, b"release at 20040")
+}
+
 fn run(table: &[u8], text: &[u8]) {
     put(text);
     put(b"\n");
     let s = State::fresh();
     let s = three_clicks(table, text, s);
     let s = across_the_wrap(table, text, s);
-    with_caps_lock(table, text, s);
+    let s = with_caps_lock(table, text, s);
+    drag(table, text, s);
     put(b"\nMeta is Mod1\n");
     with_meta(table, text, MOD1_ROW);
     put(b"\nMeta is Mod4\n");
@@ -170,7 +194,7 @@ fn run(table: &[u8], text: &[u8]) {
 
 fn main() {
     let text =
-        b"<Btn1Down>(2): grant(space)\n<Btn1Down>: look(bucket)\nCtrl<Key>g: grant(space)\nMeta<Key>g: revoke(space)\n";
+        b"<Btn1Down>(2): grant(space)\n<Btn1Down>: look(bucket)\nCtrl<Key>g: grant(space)\nMeta<Key>g: revoke(space)\n<Btn1Down>,<Btn1Motion>: slide(bar)\n<Btn1Down>,<Btn1Motion>,<Btn1Up>: set(cap)\n";
     let mut table = [0u8; tables::TABLE_LENGTH];
     match compiler::compile(text, &mut table) {
         Compiled::Accepted => run(&table, text),

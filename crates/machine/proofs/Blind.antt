@@ -1,22 +1,23 @@
 -- Lists of calls that are alike in all but bits that the table does not test get the same answers.
-use Prim.Native.Nat.{ℕ, zero, suc}
-use native.Mathlib.Omega.{arith}
+use Prim.Native.Nat.{ℕ, zero, suc, pred, max}
 use mathlib.Core.Path.{_≡_, refl, ap, ap₂, subst}
-use mathlib.Core.Bool.{Bool, true, false, cond, _&&_}
+use mathlib.Core.Bool.{Bool, true, false, cond, not, _&&_}
 use mathlib.Core.Option.{Option, none, some}
 use mathlib.Core.List.{List, [], _∷_, _++_}
 use lib.Dec.{eqb, ltb}
-use lib.ListN.{drop}
+use lib.ListN.{length, take, drop}
 use Rattle.model.specs.Numbers.{badRecord}
+use Rattle.model.specs.Codes.{isMotion}
 use Rattle.model.specs.Tables.{Table}
 use Rattle.model.specs.Records.{isBadRecord, recordRead}
 use Rattle.model.specs.Setting.{Setting}
+use Rattle.model.specs.Selection.{endsIn, withoutLast, fallsBack}
 use Rattle.model.specs.Matching.{readingOf, tests}
 use Rattle.model.specs.Demand.{MatchCall, selection, answersFrom, Like, LikeReads, Alike}
 use Rattle.model.specs.declared.events.Event.{Event}
 use Rattle.model.specs.declared.answers.RecordRead.{RecordRead}
 use Rattle.model.specs.declared.answers.Matched.{Matched}
-use Rattle.machine.specs.Kept.{Kept, fresh, contextLimit, longestEnd, usedUp, moved, chosenIn, choice, marked, kept, Step, passesContext, stepNumber, act, stepped, keptMatcher}
+use Rattle.machine.specs.Kept.{Kept, fresh, contextLimit, shortened, left, longestEnd, grown, usedUp, unused, reopened, moved, chosenIn, choice, marked, kept, Step, keepsTooMany, passesContext, stepNumber, act, stepped, keptMatcher}
 use Rattle.machine.proofs.Untested.{Each, each-length, known-same, prefix-same, chosen-same}
 
 module _ {E : Type 0} (Rel : E → E → Type 0) where
@@ -29,6 +30,25 @@ module _ {E : Type 0} (Rel : E → E → Type 0) where
   each-drop (suc n) Each.empty = Each.empty
   each-drop (suc n) (Each.more l e) = each-drop n e
 
+  each-take : (n : ℕ) {xs ys : List E} → Each Rel xs ys → Each Rel (take n xs) (take n ys)
+  each-take zero e = Each.empty
+  each-take (suc n) Each.empty = Each.empty
+  each-take (suc n) (Each.more l e) = Each.more l (each-take n e)
+
+  each-without : {xs ys : List E} → Each Rel xs ys → Each Rel (withoutLast xs) (withoutLast ys)
+  each-without {xs} {ys} e =
+      subst (λ (n : ℕ). Each Rel (withoutLast xs) (take (pred n) ys)) (each-length e) (each-take (pred (length xs)) e)
+
+  each-cond : (b : Bool) {xs ys : List E} → Each Rel xs ys → Each Rel (cond b xs []) (cond b ys [])
+  each-cond true e = e
+  each-cond false e = Each.empty
+
+  ends-same : (f : E → Bool) → ((x y : E) → Rel x y → f x ≡ f y) → {xs ys : List E} → Each Rel xs ys → endsIn f xs ≡ endsIn f ys
+  unfolding endsIn
+  ends-same f s Each.empty = refl
+  ends-same f s (Each.more {x} {y} l Each.empty) = s x y l
+  ends-same f s (Each.more l (Each.more k e)) = ends-same f s (Each.more k e)
+
   each-drops : {n m : ℕ} → n ≡ m → {xs ys : List E} → Each Rel xs ys → Each Rel (drop n xs) (drop m ys)
   each-drops {n} {m} q {xs} {ys} e = subst (λ (i : ℕ). Each Rel (drop n xs) (drop i ys)) q (each-drop n e)
 
@@ -39,6 +59,37 @@ module _ (t : Table) (setting : Setting) where
   record Same (k j : Kept Event) : Type 0 where
     events : Each (Like (tests setting t)) (k .events) (j .events)
     selected : k .selected ≡ j .selected
+    isOpen : k .isOpen ≡ j .isOpen
+
+  cond-same : {a b : Bool} → a ≡ b → {k j n m : Kept Event} → Same k j → Same n m → Same (cond a k n) (cond b j m)
+  cond-same {a} {b} q {k} {j} {n} {m} s r = rw q (go b)
+    where
+      go : (c : Bool) → Same (cond c k n) (cond c j m)
+      go true = s
+      go false = r
+
+  fresh-same : Same fresh fresh
+  fresh-same = record { events = Each.empty; selected = refl; isOpen = refl }
+
+  motion-same : {x y : Event} → Like (tests setting t) x y → readingOf t setting .motion x ≡ readingOf t setting .motion y
+  motion-same l = ap isMotion (l .code)
+
+  shortened-same : (k j : Kept Event) → Same k j → Same (shortened (readingOf t setting) k) (shortened (readingOf t setting) j)
+  shortened-same k j s =
+      record {
+        events = each-without (Like (tests setting t)) (s .events);
+        selected = ap₂ fallsBack (each-length (s .events)) (s .selected);
+        isOpen = ap₂ (λ o n. o && not (eqb n 1)) (s .isOpen) (each-length (s .events));
+      }
+
+  left-same :
+      (k j : Kept Event) (x y : Event) → Same k j → Like (tests setting t) x y
+      → Same (left (readingOf t setting) k x) (left (readingOf t setting) j y)
+  unfolding left
+  left-same k j x y s l =
+      cond-same
+      (ap₂ _&&_ (motion-same l) (ends-same (Like (tests setting t)) (readingOf t setting .motion) (λ a b m. motion-same m) (s .events)))
+      (shortened-same k j s) (cond-same (s .isOpen) s fresh-same)
 
   longest-same :
       {xs ys : List Event} → Each (Like (tests setting t)) xs ys
@@ -53,37 +104,53 @@ module _ (t : Table) (setting : Setting) where
       go true q r = rw (prefix-same t setting (Each.more l e), q) (Each.more l e)
       go false q r = rw (prefix-same t setting (Each.more l e), q) r
 
+  reopened-same :
+      (moves : Bool) {rest others xs ys : List Event} → Each (Like (tests setting t)) rest others → Each (Like (tests setting t)) xs ys
+      → Same (reopened (readingOf t setting) moves rest xs) (reopened (readingOf t setting) moves others ys)
+  reopened-same moves r Each.empty = record { events = each-cond (Like (tests setting t)) moves r; selected = refl; isOpen = refl }
+  reopened-same moves r (Each.more l e) = record { events = Each.more l e; selected = refl; isOpen = refl }
+
+  -- where k and j are left
   moved-same :
       (k j : Kept Event) (x y : Event) → Same k j → Like (tests setting t) x y
       → Same (moved (readingOf t setting) k x) (moved (readingOf t setting) j y)
   unfolding moved
-  moved-same k j x y s l = go (readingOf t setting .prefix (j .events ++ (y ∷ []))) refl
+  moved-same k j x y s l =
+      cond-same (ap₂ _&&_ (s .isOpen) (prefix-same t setting e)) (record { events = e; selected = s .selected; isOpen = refl })
+      (rw (motion-same l) (reopened-same (readingOf t setting .motion y) r (longest-same r)))
     where
-      e : Each (Like (tests setting t)) (k .events ++ (x ∷ [])) (j .events ++ (y ∷ []))
+      e : Each (Like (tests setting t)) (grown (readingOf t setting) k x) (grown (readingOf t setting) j y)
       e = each-snoc (Like (tests setting t)) (s .events) l
 
-      go : (b : Bool) → readingOf t setting .prefix (j .events ++ (y ∷ [])) ≡ b
-          → Same (moved (readingOf t setting) k x) (moved (readingOf t setting) j y)
-      go true q = rw (prefix-same t setting e, q) (record { events = e; selected = s .selected })
-      go false q =
-          let u : usedUp (readingOf t setting) k ≡ usedUp (readingOf t setting) j = omega (arith, s .selected) in
-          rw (prefix-same t setting e, q) (record { events = longest-same (each-drops (Like (tests setting t)) u e); selected = refl })
+      u : usedUp (readingOf t setting) k ≡ usedUp (readingOf t setting) j
+      u = ap₂ (λ o n. cond o (max 1 n) 0) (s .isOpen) (s .selected)
 
-  chosen-in-same : {xs ys : List Event} → Each (Like (tests setting t)) xs ys → chosenIn (readingOf t setting) xs ≡ chosenIn (readingOf t setting) ys
-  chosen-in-same Each.empty = refl
-  chosen-in-same (Each.more l e) = chosen-same t setting (Each.more l e)
+      r : Each (Like (tests setting t)) (unused (readingOf t setting) k x) (unused (readingOf t setting) j y)
+      r = each-drops (Like (tests setting t)) u e
+
+  -- the context after rule 3
+  context-same :
+      (k j : Kept Event) (x y : Event) → Same k j → Like (tests setting t) x y
+      → Same (moved (readingOf t setting) (left (readingOf t setting) k x) x) (moved (readingOf t setting) (left (readingOf t setting) j y) y)
+  context-same k j x y s l =
+      moved-same (left (readingOf t setting) k x) (left (readingOf t setting) j y) x y (left-same k j x y s l) l
+
+  chosen-in-same : (k j : Kept Event) → Same k j → chosenIn (readingOf t setting) k ≡ chosenIn (readingOf t setting) j
+  chosen-in-same k j s = ap₂ (λ o p. cond o p none) (s .isOpen) (chosen-same t setting (s .events))
 
   choice-same :
       (k j : Kept Event) (x y : Event) → Same k j → Like (tests setting t) x y
       → choice (readingOf t setting) k x ≡ choice (readingOf t setting) j y
   unfolding choice
-  choice-same k j x y s l = chosen-in-same (moved-same k j x y s l .events)
+  choice-same k j x y s l =
+      chosen-in-same (moved (readingOf t setting) (left (readingOf t setting) k x) x)
+      (moved (readingOf t setting) (left (readingOf t setting) j y) y) (context-same k j x y s l)
 
   marked-same :
       (k j : Kept Event) → Same k j → (o : Option ℕ)
       → Same (marked (readingOf t setting) k o) (marked (readingOf t setting) j o)
   marked-same k j s none = s
-  marked-same k j s (some p) = record { events = s .events; selected = omega (arith, s .selected, each-length (s .events)) }
+  marked-same k j s (some p) = record { events = s .events; selected = each-length (s .events); isOpen = s .isOpen }
 
   kept-same :
       (k j : Kept Event) (x y : Event) → Same k j → Like (tests setting t) x y
@@ -91,7 +158,8 @@ module _ (t : Table) (setting : Setting) where
   unfolding kept
   kept-same k j x y s l =
       rw (choice-same k j x y s l)
-      (marked-same (moved (readingOf t setting) k x) (moved (readingOf t setting) j y) (moved-same k j x y s l)
+      (marked-same (moved (readingOf t setting) (left (readingOf t setting) k x) x)
+      (moved (readingOf t setting) (left (readingOf t setting) j y) y) (context-same k j x y s l)
       (choice (readingOf t setting) j y))
 
   -- ---- Calls
@@ -114,11 +182,14 @@ module _ (t : Table) (setting : Setting) where
       go false true x y l = absurd l
       go false false x y l = refl
 
+  full-same : (k j : Kept Event) → Same k j → keepsTooMany t setting k ≡ keepsTooMany t setting j
+  full-same k j s = ap₂ (λ o n. o && ltb contextLimit n) (s .isOpen) (each-length (s .events))
+
   passes-same :
       (k j : Kept Event) → Same k j → (a b : RecordRead) → LikeReads (tests setting t) a b
       → passesContext t setting k a ≡ passesContext t setting j b
   passes-same k j s (RecordRead.Event x) (RecordRead.Event y) l =
-      ap₂ _&&_ (known-same t setting l) (ap (λ n. ltb contextLimit n) (each-length (moved-same k j x y s l .events)))
+      ap₂ _&&_ (known-same t setting l) (full-same _ _ (context-same k j x y s l))
   passes-same k j s (RecordRead.Event x) (RecordRead.Refused n) l = absurd l
   passes-same k j s (RecordRead.Refused n) (RecordRead.Event y) l = absurd l
   passes-same k j s (RecordRead.Refused n) (RecordRead.Refused m) l = refl
@@ -169,4 +240,4 @@ module _ (t : Table) (setting : Setting) where
   pub blind :
       (cs ds : List MatchCall) → Alike (tests setting t) cs ds
       → answersFrom (keptMatcher t setting) fresh cs ≡ answersFrom (keptMatcher t setting) fresh ds
-  blind cs ds a = answers-same fresh fresh (record { events = Each.empty; selected = refl }) a
+  blind cs ds a = answers-same fresh fresh fresh-same a

@@ -9,7 +9,7 @@ use Rattle.model.specs.Tables.{Table}
 use Rattle.model.specs.Records.{recordRead}
 use Rattle.model.specs.Setting.{Setting}
 use Rattle.model.specs.Matching.{readingOf}
-use Rattle.model.specs.Demand.{MatchCall, selection, history, stateAfter, Demand3For}
+use Rattle.model.specs.Demand.{MatchCall, selection, heardAll, stateAfter, Demand3For}
 use Rattle.model.specs.declared.events.Event.{Event}
 use Rattle.model.specs.declared.answers.RecordRead.{RecordRead}
 use Rattle.machine.specs.Kept.{Kept, fresh, Step, choice, stepNumber, act, stepped, keptMatcher}
@@ -50,6 +50,6 @@ demand3 t w setting cs =
     record {
       selects = selects t setting w cs;
       refuses = λ before rest c e f. step-refuses t setting (stateAfter (keptMatcher t setting) fresh before) c f;
-      apart = λ i j from to l m p a q b. apart (readingOf t setting) (history t setting cs) i j from to l p a b;
+      apart = λ i j l m g q. apart (readingOf t setting) (heardAll t setting cs) i j l g;
       blind = λ ds l. blind t setting cs ds l;
     }

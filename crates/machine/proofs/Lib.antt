@@ -1,7 +1,12 @@
+pub mod AllKept
 pub mod Checks
-pub mod Track
-pub mod Apart
 pub mod Tests
+pub mod Lists
+pub mod Falls
+pub mod Track
+pub mod Every
+pub mod Apart
+pub mod Replaced
 pub mod Prefix
 pub mod Limits
 pub mod Untested

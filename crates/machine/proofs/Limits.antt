@@ -1,10 +1,10 @@
 -- On a table that passes no limit no stretch that reads as a prefix is longer than 24 events, so that 15 is never given.
-use Prim.Native.Nat.{ℕ, _≤_, _<_}
+use Prim.Native.Nat.{ℕ, _≤_}
 use native.Mathlib.Omega.{arith}
-use borrow.Author.Tests.{ltb-true, ltb-false}
+use borrow.Author.Tests.{ltb-false, le-ltb}
 use mathlib.Core.Path.{_≡_, refl, ap, _∙_}
 use mathlib.Core.Logic.{⊎-elim}
-use mathlib.Core.Bool.{Bool, true, false, _&&_}
+use mathlib.Core.Bool.{Bool, true, false, _&&_, false≢true}
 use mathlib.Core.Option.{Option, none, some}
 use mathlib.Core.List.{List, [], _∷_, List·Memᴰ}
 use lib.Dec.{ltb}
@@ -19,19 +19,12 @@ use Rattle.model.specs.Matching.{fits, follows, readsAsPrefix, readingOf}
 use Rattle.model.specs.declared.events.Event.{Event}
 use Rattle.model.specs.declared.answers.RecordRead.{RecordRead}
 use Rattle.machine.specs.Never.{NeverFull}
-use Rattle.machine.specs.Kept.{Kept, contextLimit, longestEnd, grown, unused, moved}
+use Rattle.machine.specs.Kept.{Kept, contextLimit, left, longestEnd, grown, unused, reopened, moved, keepsTooMany}
 use Rattle.machine.proofs.Tests.{any-in, and-right, or-cases, or-no-left, or-no-right}
 
 and-false : (b : Bool) → b && false ≡ false
 and-false true = refl
 and-false false = refl
-
-ltb-not : (a b : ℕ) → b ≤ a → ltb a b ≡ false
-ltb-not a b l = go (ltb a b) refl
-  where
-    go : (c : Bool) → ltb a b ≡ c → c ≡ false
-    go true q = let m : a < b = ltb-true a b q in absurd (omega arith)
-    go false q = refl
 
 -- ---- Stretches
 
@@ -101,20 +94,42 @@ module _ (setting : Setting) where
         go true q l = rw q (prefix-short t w (x ∷ xs) q)
         go false q l = rw q l
 
-    -- whatever was kept before, the context has at most 24 events after rule 3
-    pub moved-short : (k : Kept Event) (x : Event) → length (moved (readingOf t setting) k x .events) ≤ sequenceLimit
+    -- a context that opens anew reads as a prefix
+    reopened-short :
+        (moves : Bool) (rest end : List Event) → length end ≤ sequenceLimit
+        → reopened (readingOf t setting) moves rest end .isOpen ≡ true
+        → length (reopened (readingOf t setting) moves rest end .events) ≤ sequenceLimit
+    reopened-short moves rest [] l o = absurd (false≢true o)
+    reopened-short moves rest (y ∷ ys) l o = l
+
+    -- whatever is left, a context that is open after rule 3 has at most 24 events
+    pub moved-short :
+        (k : Kept Event) (x : Event) → moved (readingOf t setting) k x .isOpen ≡ true
+        → length (moved (readingOf t setting) k x .events) ≤ sequenceLimit
     unfolding moved
-    moved-short k x = go (readingOf t setting .prefix (grown (readingOf t setting) k x)) refl
+    moved-short k x = go (k .isOpen && readingOf t setting .prefix (grown (readingOf t setting) k x)) refl
       where
-        go : (b : Bool) → readingOf t setting .prefix (grown (readingOf t setting) k x) ≡ b
+        go : (b : Bool) → k .isOpen && readingOf t setting .prefix (grown (readingOf t setting) k x) ≡ b
+            → moved (readingOf t setting) k x .isOpen ≡ true
             → length (moved (readingOf t setting) k x .events) ≤ sequenceLimit
-        go true q = rw q (prefix-short t w (grown (readingOf t setting) k x) q)
-        go false q = rw q (longest-short (unused (readingOf t setting) k x))
+        go true q = rw q (λ o. prefix-short t w (grown (readingOf t setting) k x) (and-right (k .isOpen) _ q))
+        go false q =
+            rw q
+            (reopened-short (readingOf t setting .motion x) (unused (readingOf t setting) k x)
+            (longestEnd (readingOf t setting) (unused (readingOf t setting) k x))
+            (longest-short (unused (readingOf t setting) k x)))
+
+    not-full : (k : Kept Event) → (k .isOpen ≡ true → length (k .events) ≤ sequenceLimit) → keepsTooMany t setting k ≡ false
+    not-full k l = go (k .isOpen) refl
+      where
+        go : (b : Bool) → k .isOpen ≡ b → b && ltb contextLimit (length (k .events)) ≡ false
+        go true q = le-ltb contextLimit (length (k .events)) (l q)
+        go false q = refl
 
 -- 15 is never given
 pub never-full : NeverFull
 never-full t w setting k (RecordRead.Event x) =
-    ap (λ b. readingOf t setting .known x && b)
-    (ltb-not contextLimit (length (moved (readingOf t setting) k x .events)) (moved-short setting t w k x))
-    ∙ and-false (readingOf t setting .known x)
+    let R = readingOf t setting in
+    ap (λ b. R .known x && b) (not-full setting t w (moved R (left R k x) x) (moved-short setting t w (left R k x) x))
+    ∙ and-false (R .known x)
 never-full t w setting k (RecordRead.Refused n) = refl

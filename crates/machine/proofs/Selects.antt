@@ -3,7 +3,6 @@ use mathlib.Core.Path.{_≡_, refl, sym, ap, ap₂, _∙_, subst}
 use mathlib.Core.Bool.{Bool, true, false, cond}
 use mathlib.Core.List.{List, [], _∷_, _++_, append-assoc, append-nil}
 use lib.Dec.{eqb}
-use lib.ListN.{length}
 use Rattle.model.specs.Numbers.{matchOrder}
 use Rattle.model.specs.Tables.{Table}
 use Rattle.model.specs.Records.{codeOf, eventOf, isBadRecord, recordRead}
@@ -11,7 +10,7 @@ use Rattle.model.specs.Setting.{Setting}
 use Rattle.model.specs.Selection.{standing}
 use Rattle.model.specs.Matching.{readingOf}
 use Rattle.model.specs.Compiling.{passesLimit}
-use Rattle.model.specs.Demand.{MatchCall, callChecks, callNumber, heard, history, selection, namedHeard, named, namedFrom, answersFrom}
+use Rattle.model.specs.Demand.{MatchCall, callChecks, callNumber, heard, heardAll, selection, namedHeard, named, namedFrom, answersFrom}
 use Rattle.model.specs.declared.events.Event.{Event}
 use Rattle.model.specs.declared.answers.RecordRead.{RecordRead}
 use Rattle.machine.specs.Kept.{Kept, fresh, keptAll, Step, stepNumber, refuse, dropEvent, hear, act, stepped, keptMatcher}
@@ -21,14 +20,14 @@ use Rattle.machine.proofs.Prefix.{reading-closed}
 use Rattle.machine.proofs.Limits.{never-full}
 
 module _ (t : Table) (setting : Setting) where
-  history-snoc :
+  heard-snoc :
       (before : List MatchCall) (c : MatchCall)
-      → history t setting (before ++ (c ∷ [])) ≡ history t setting before ++ heard t setting c
-  unfolding history
-  history-snoc [] c = append-nil (heard t setting c)
-  history-snoc (b ∷ bs) c =
-      ap (λ h. heard t setting b ++ h) (history-snoc bs c)
-      ∙ sym (append-assoc (heard t setting b) (history t setting bs) (heard t setting c))
+      → heardAll t setting (before ++ (c ∷ [])) ≡ heardAll t setting before ++ heard t setting c
+  unfolding heardAll
+  heard-snoc [] c = append-nil (heard t setting c)
+  heard-snoc (b ∷ bs) c =
+      ap (λ h. heard t setting b ++ h) (heard-snoc bs c)
+      ∙ sym (append-assoc (heard t setting b) (heardAll t setting bs) (heard t setting c))
 
   -- a call that no number refuses brings an event
   good-record : (c : MatchCall) → eqb (callNumber t setting c) 0 ≡ true → isBadRecord (c .bytes) (c .order) ≡ false
@@ -49,20 +48,20 @@ module _ (t : Table) (setting : Setting) where
 
     -- the state after calls, as the rules need it of their history
     keptAfter : List MatchCall → Kept Event
-    keptAfter cs = keptAll (readingOf t setting) fresh (history t setting cs)
+    keptAfter cs = keptAll (readingOf t setting) fresh (heardAll t setting cs)
 
     record Right (before : List MatchCall) (c : MatchCall) (s : Step) : Type 0 where
       answer : s .answer ≡ named t setting before c
       next : s .next ≡ keptAfter (before ++ (c ∷ []))
 
     module _ (before : List MatchCall) (c : MatchCall) where
-      -- the call adds nothing to the history
+      -- the call brings no event
       kept-nothing : heard t setting c ≡ [] → keptAfter before ≡ keptAfter (before ++ (c ∷ []))
       unfolding keptAfter
       kept-nothing e =
           sym
           (ap (keptAll (readingOf t setting) fresh)
-          (history-snoc before c ∙ ap (λ es. history t setting before ++ es) e ∙ append-nil (history t setting before)))
+          (heard-snoc before c ∙ ap (λ es. heardAll t setting before ++ es) e ∙ append-nil (heardAll t setting before)))
 
       right-refused : eqb (callNumber t setting c) 0 ≡ false → Right before c (refuse t setting (callNumber t setting c) (keptAfter before))
       unfolding named heard
@@ -89,18 +88,18 @@ module _ (t : Table) (setting : Setting) where
         unfolding keptAfter
         right-heard f =
             let e : heard t setting c ≡ eventIn c ∷ [] = heard-is ∙ ap (λ b. cond b (eventIn c ∷ []) []) f in
-            let h : history t setting (before ++ (c ∷ [])) ≡ history t setting before ++ (eventIn c ∷ [])
-            = history-snoc before c ∙ ap (λ es. history t setting before ++ es) e in
+            let h : heardAll t setting (before ++ (c ∷ [])) ≡ heardAll t setting before ++ (eventIn c ∷ [])
+            = heard-snoc before c ∙ ap (λ es. heardAll t setting before ++ es) e in
             record {
               answer =
                   ap (selection t setting)
-                  (choice-snoc (readingOf t setting) (reading-closed setting t) (history t setting before) (eventIn c)
-                  ∙ ap (λ g. standing (readingOf t setting) g (length g) .selected) (sym h))
+                  (choice-snoc (readingOf t setting) (reading-closed setting t) (heardAll t setting before) (eventIn c)
+                  ∙ ap (λ g. standing (readingOf t setting) g .selected) (sym h))
                   ∙ sym (named-is ∙ ap (namedHeard t setting (before ++ (c ∷ []))) e);
               next =
                   sym
                   (ap (keptAll (readingOf t setting) fresh) h
-                  ∙ kept-snoc (readingOf t setting) fresh (history t setting before) (eventIn c));
+                  ∙ kept-snoc (readingOf t setting) fresh (heardAll t setting before) (eventIn c));
             }
 
         right-event :
@@ -133,5 +132,5 @@ module _ (t : Table) (setting : Setting) where
         (ap (λ k. answersFrom (keptMatcher t setting) k cs) (r .next) ∙ selects-from (before ++ (c ∷ [])) cs)
 
     pub selects : (cs : List MatchCall) → answersFrom (keptMatcher t setting) fresh cs ≡ namedFrom t setting [] cs
-    unfolding keptAfter history keptAll
+    unfolding keptAfter heardAll keptAll
     selects cs = selects-from [] cs

@@ -21,10 +21,12 @@ use Rattle.machine.specs.Kept.{Kept, Step, choice, dropEvent, hear, act}
 use Rattle.tables.specs.Reading.{decode}
 use Rattle.states.specs.declared.State.{State}
 use Rattle.states.specs.State.{keptOf}
-use Rattle.matcher.specs.declared.Answer.{Answer}
-use Rattle.matcher.specs.Match.{matchCall, stepAnswer, refusedWith, matchNumber, matchSelection, callAnswer}
+use Rattle.acting.specs.declared.Answer.{Answer}
+use Rattle.acting.specs.Act.{matchCall, stepAnswer, refusedWith}
+use Rattle.matcher.specs.Match.{matchNumber, matchSelection, callAnswer}
 use Rattle.matcher.specs.Laws.{EveryAnswer}
-use Rattle.matcher.proofs.MatchLaws.{past-all, read-good, acted, dropped-event}
+use Rattle.acting.proofs.ActLaws.{read-good}
+use Rattle.matcher.proofs.MatchLaws.{past-all, acted, dropped-call}
 use Rattle.matcher.proofs.NextLaws.{accepted-whole}
 
 -- ---- An event that is read
@@ -73,7 +75,7 @@ module _ (table : List ℕ) (setting : Setting) (s : State) (c : MatchCall) wher
 
   -- a call that is accepted reads an event
   read-is : number ≡ 0 → recordRead (c .bytes) (c .order) ≡ RecordRead.Event x
-  read-is e = let p = past-all table setting s c e in read-good table setting s c (p .0) (p .1)
+  read-is e = read-good c (past-all table setting s c e .1)
 
   accepted-is : number ≡ 0 → answer ≡ stepAnswer (act (decode table) setting (keptOf s) (RecordRead.Event x))
   accepted-is e = acted table setting s c (past-all table setting s c e .0) x (read-is e)
@@ -130,7 +132,7 @@ module _ (table : List ℕ) (setting : Setting) (s : State) (c : MatchCall) wher
   unknown-by : (y : Event) → number ≡ 0 → recordRead (c .bytes) (c .order) ≡ RecordRead.Event y
       → any (hasType (y .code)) (decode table .productions) ≡ false
       → _≡_ {A = Answer} (record { matched = Matched.Dropped; state = s }) answer
-  unknown-by y e r q = dropped-event table setting s c (past-all table setting s c e .0) y r q
+  unknown-by y e r q = dropped-call table setting s c (past-all table setting s c e .0) y r q
 
   dropped-by : answer .matched ≡ Matched.Dropped → (matchedSelection (answer .matched) ≡ none) × (answer .state ≡ s)
   dropped-by d =

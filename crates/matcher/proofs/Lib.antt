@@ -1,4 +1,3 @@
-pub mod MoveLaws
 pub mod MatchLaws
 pub mod NextLaws
 pub mod AnswerLaws

@@ -1,9 +1,9 @@
--- The ways that a call can go.
+-- The numbers that refuse a call before its record is looked at, and the call past them.
 use Prim.Native.Nat.{ℕ, _-_, _≤_, _<_}
 use native.Mathlib.Omega.{arith}
 use borrow.Author.Tests.{eqb-true, eq-eqb, ne-eqb, ltb-true, ltb-false}
 use mathlib.Core.Path.{_≡_, refl, sym, ap, _∙_}
-use mathlib.Core.Bool.{Bool, true, false, cond, not, _||_, false≢true}
+use mathlib.Core.Bool.{Bool, true, false, not, _||_, false≢true}
 use mathlib.Core.List.{List, []}
 use lib.Dec.{eqb, ltb}
 use lib.ListN.{length, take, drop, length-drop, drop-of-length-le}
@@ -11,8 +11,8 @@ use lib.Seq.{take-all}
 use Rattle.model.specs.Setting.{Setting}
 use Rattle.model.specs.Resolving.{isBadMap}
 use Rattle.model.specs.Lists.{any}
-use Rattle.model.specs.Numbers.{MatchChecks, badRecord, matchOrder, recordNumber}
-use Rattle.model.specs.Records.{isBadRecord, recordRead, eventOf, codeOf}
+use Rattle.model.specs.Numbers.{MatchChecks, badRecord, matchOrder}
+use Rattle.model.specs.Records.{isBadRecord, recordRead}
 use Rattle.model.specs.Matching.{hasType}
 use Rattle.model.specs.Demand.{MatchCall}
 use Rattle.model.specs.declared.events.Event.{Event}
@@ -20,18 +20,19 @@ use Rattle.model.specs.declared.answers.RecordRead.{RecordRead}
 use Rattle.model.specs.declared.answers.Matched.{Matched}
 use Rattle.keyboard.specs.Maps.{mapNumbers, modifierEntriesIn}
 use Rattle.keyboard.proofs.Maps.{map-bytes, map-numbers}
-use Rattle.machine.specs.Kept.{passesContext, stepNumber, act, hear, dropEvent, stepped}
+use Rattle.machine.specs.Kept.{passesContext, act, stepped}
 use Rattle.machine.proofs.Checks.{NoneApplies, none-applies}
 use Rattle.machine.proofs.Limits.{never-full}
 use Rattle.tables.specs.Layout.{tableLength}
 use Rattle.tables.specs.Reading.{decode}
 use Rattle.tables.specs.Whole.{whole}
 use Rattle.states.specs.declared.State.{State}
-use Rattle.matcher.specs.declared.Answer.{Answer}
+use Rattle.acting.specs.declared.Answer.{Answer}
 use Rattle.states.specs.State.{keptOf, wholeState}
-use Rattle.matcher.specs.Match.{stepAnswer, refusedWith, tooShort, earlyChecks, matchNumber, callAnswer}
-use Rattle.states.proofs.StateLaws.{state-facts, state-kept}
+use Rattle.acting.specs.Act.{stepAnswer, refusedWith}
+use Rattle.matcher.specs.Match.{tooShort, earlyChecks, matchNumber, callAnswer}
 use Rattle.fields.proofs.TableFacts.{table-facts}
+use Rattle.acting.proofs.ActLaws.{refused-by, stepped-event, dropped-event}
 
 -- ---- The order of the checks
 
@@ -165,71 +166,28 @@ module _ (table : List ℕ) (setting : Setting) (s : State) (c : MatchCall) wher
           never-full (decode table) (table-facts table (p .isWhole) .limit) setting (keptOf s) (recordRead (c .bytes) (c .order)),
         )
 
-    step-number : isBadRecord (c .bytes) (c .order) ≡ false → stepNumber (decode table) setting (keptOf s) c ≡ 0
-    unfolding stepNumber
-    step-number e =
-        rw (
-          eq-eqb (length (setting .keyboard)) 496 (p .mapLong),
-          p .modifiersGood,
-          e,
-          never-full (decode table) (table-facts table (p .isWhole) .limit) setting (keptOf s) (recordRead (c .bytes) (c .order)),
-        )
-
-    read-bad : isBadRecord (c .bytes) (c .order) ≡ true → recordRead (c .bytes) (c .order) ≡ RecordRead.Refused badRecord
-    unfolding recordRead
-    read-bad e = rw e
-
-    pub read-good : isBadRecord (c .bytes) (c .order) ≡ false
-        → recordRead (c .bytes) (c .order) ≡ RecordRead.Event (eventOf (c .bytes) (c .order) (codeOf (c .bytes)))
-    unfolding recordRead
-    read-good e = rw e
-
-    -- 13
-    pub refused-record : (n : ℕ) → recordRead (c .bytes) (c .order) ≡ RecordRead.Refused n
-        → (m : ℕ) → m ≡ recordNumber (recordRead (c .bytes) (c .order))
-        → refusedWith m s ≡ callAnswer table setting s c
-    refused-record n r m q = go (isBadRecord (c .bytes) (c .order)) refl
+    -- past them the call acts
+    pub call-is : stepAnswer (stepped (decode table) setting (keptOf s) c) ≡ callAnswer table setting s c
+    unfolding callAnswer
+    call-is = go (isBadRecord (c .bytes) (c .order)) refl
       where
-        go : (bad : Bool) → isBadRecord (c .bytes) (c .order) ≡ bad → refusedWith m s ≡ callAnswer table setting s c
+        go : (bad : Bool) → isBadRecord (c .bytes) (c .order) ≡ bad
+            → stepAnswer (stepped (decode table) setting (keptOf s) c) ≡ callAnswer table setting s c
         go true e =
-            let k : m ≡ badRecord = q ∙ ap recordNumber (read-bad e) in
-            ap (λ (j : ℕ). refusedWith j s) k ∙ sym (refused-answer badRecord (number-is true e) (one≢ 13 (omega arith)))
-        go false e =
-            let z : RecordRead.Event (eventOf (c .bytes) (c .order) (codeOf (c .bytes))) ≡ RecordRead.Refused n = sym (read-good e) ∙ r in
-            let o : _≡_ {A = ℕ} 0 1 = cc in
-            absurd (omega arith)
-
-    accepted : (x : Event) → recordRead (c .bytes) (c .order) ≡ RecordRead.Event x → isBadRecord (c .bytes) (c .order) ≡ false
-    accepted x r = go (isBadRecord (c .bytes) (c .order)) refl
-      where
-        go : (bad : Bool) → isBadRecord (c .bytes) (c .order) ≡ bad → bad ≡ false
-        go true e =
-            let z : RecordRead.Refused badRecord ≡ RecordRead.Event x = sym (read-bad e) ∙ r in
-            let o : _≡_ {A = ℕ} 0 1 = cc in
-            absurd (omega arith)
-        go false e = refl
+            sym (refused-by (decode table) (table-facts table (p .isWhole) .limit) setting (p .mapLong) (p .modifiersGood) c s (p .stateWhole) e)
+            ∙ sym (refused-answer badRecord (number-is true e) (one≢ 13 (omega arith)))
+        go false e = rw (number-is false e)
 
     pub acted : (x : Event) → recordRead (c .bytes) (c .order) ≡ RecordRead.Event x
         → callAnswer table setting s c ≡ stepAnswer (act (decode table) setting (keptOf s) (RecordRead.Event x))
-    unfolding callAnswer stepped
     acted x r =
-        rw (number-is false (accepted x r), step-number (accepted x r), r)
-
-    dropped-answer : _≡_ {A = Answer} (record { matched = Matched.Dropped; state = s }) (stepAnswer (dropEvent (decode table) setting (keptOf s)))
-    unfolding stepAnswer
-    dropped-answer =
-        ap (λ (u : State). record { matched = Matched.Dropped; state = u }) (sym (state-kept s (state-facts s (p .stateWhole))))
+        sym call-is
+        ∙ ap stepAnswer (stepped-event (decode table) (table-facts table (p .isWhole) .limit) setting (p .mapLong) (p .modifiersGood) c (keptOf s) x r)
 
     -- no production has an event of its type
-    pub dropped-event : (x : Event) → recordRead (c .bytes) (c .order) ≡ RecordRead.Event x
+    pub dropped-call : (x : Event) → recordRead (c .bytes) (c .order) ≡ RecordRead.Event x
         → any (hasType (x .code)) (decode table .productions) ≡ false
         → _≡_ {A = Answer} (record { matched = Matched.Dropped; state = s }) (callAnswer table setting s c)
-    dropped-event x r q =
-        dropped-answer
-        ∙ sym (acted x r ∙ ap (λ (b : Bool). stepAnswer (cond b (hear (decode table) setting (keptOf s) x) (dropEvent (decode table) setting (keptOf s)))) q)
-
-    pub heard-event : (x : Event) → recordRead (c .bytes) (c .order) ≡ RecordRead.Event x
-        → any (hasType (x .code)) (decode table .productions) ≡ true
-        → stepAnswer (hear (decode table) setting (keptOf s) x) ≡ callAnswer table setting s c
-    heard-event x r q =
-        sym (acted x r ∙ ap (λ (b : Bool). stepAnswer (cond b (hear (decode table) setting (keptOf s) x) (dropEvent (decode table) setting (keptOf s)))) q)
+    dropped-call x r q =
+        dropped-event (decode table) (table-facts table (p .isWhole) .limit) setting (p .mapLong) (p .modifiersGood) c s (p .stateWhole) x r q
+        ∙ call-is

@@ -3,7 +3,7 @@ use Prim.Native.Nat.{ℕ, _+_, _<_}
 use native.Mathlib.Omega.{arith}
 use borrow.Author.Tests.{eq-eqb}
 use mathlib.Core.Path.{_≡_, refl}
-use mathlib.Core.Bool.{Bool, true, false, cond}
+use mathlib.Core.Bool.{Bool, true, false, cond, _&&_}
 use mathlib.Core.Option.{Option, none, some}
 use mathlib.Core.List.{List, [], _∷_}
 use lib.Dec.{eqb}
@@ -19,12 +19,14 @@ use Rattle.model.specs.Matching.{readingOf}
 use Rattle.model.specs.Demand.{MatchCall}
 use Rattle.model.specs.declared.events.Event.{Event}
 use Rattle.model.specs.declared.answers.RecordRead.{RecordRead}
-use Rattle.machine.specs.Kept.{Kept, longestEnd, grown, usedUp, unused, moved, choice, marked, kept, stepNumber, act, stepped}
+use Rattle.machine.specs.Kept.{Kept, left, longestEnd, grown, usedUp, unused, reopened, moved, choice, marked, kept, stepNumber, act, stepped}
 use Rattle.machine.proofs.Bounded.{stepped-bounded}
 use Rattle.tables.specs.Reading.{decode}
 use Rattle.states.specs.declared.State.{State}
 use Rattle.states.specs.State.{zeroEvent, keptOf, stateKeeping, wholeState}
-use Rattle.matcher.specs.Match.{stepAnswer, matchNumber, callAnswer}
+use Rattle.acting.specs.Act.{stepAnswer}
+use Rattle.matcher.specs.Match.{matchNumber, callAnswer}
+use Rattle.acting.proofs.MoveLaws.{ranges-left}
 use Rattle.matcher.proofs.MatchLaws.{past-all}
 use Rattle.states.proofs.StateLaws.{InRanges, ranges-tail, ranges-more, state-facts, kept-ranges, kept-bounded, bounded-whole}
 
@@ -45,14 +47,25 @@ module _ (R : Reading Event) where
       go true i = r
       go false i = i
 
+  ranges-reopened : (moving : Bool) (rest end : List Event) → InRanges rest → InRanges end
+      → InRanges (reopened R moving rest end .events)
+  ranges-reopened true rest [] r e = r
+  ranges-reopened false rest [] r e = e
+  ranges-reopened moving rest (y ∷ ys) r e = e
+
   ranges-moved : (k : Kept Event) (x : Event) → InRanges (k .events) → EventRanges x → InRanges (moved R k x .events)
   unfolding moved
-  ranges-moved k x r e = go (R .prefix (grown R k x))
+  ranges-moved k x r e = go (k .isOpen && R .prefix (grown R k x))
     where
+      rest : InRanges (unused R k x)
+      rest = ranges-drop (usedUp R k) (grown R k x) (ranges-more (k .events) x r e)
+
       go : (b : Bool)
-          → InRanges (cond {A = Kept Event} b (record { events = grown R k x; selected = k .selected }) (record { events = longestEnd R (unused R k x); selected = 0 }) .events)
+          → InRanges (cond {A = Kept Event} b (record { events = grown R k x; selected = k .selected; isOpen = true })
+          (reopened R (R .motion x) (unused R k x) (longestEnd R (unused R k x))) .events)
       go true = ranges-more (k .events) x r e
-      go false = ranges-longest (unused R k x) (ranges-drop (usedUp R k) (grown R k x) (ranges-more (k .events) x r e))
+      go false =
+          ranges-reopened (R .motion x) (unused R k x) (longestEnd R (unused R k x)) rest (ranges-longest (unused R k x) rest)
 
   ranges-marked : (k : Kept Event) (o : Option ℕ) → InRanges (k .events) → InRanges (marked R k o .events)
   ranges-marked k none r = r
@@ -60,7 +73,8 @@ module _ (R : Reading Event) where
 
   ranges-kept : (k : Kept Event) (x : Event) → InRanges (k .events) → EventRanges x → InRanges (kept R k x .events)
   unfolding kept
-  ranges-kept k x r e = ranges-marked (moved R k x) (choice R k x) (ranges-moved k x r e)
+  ranges-kept k x r e =
+      ranges-marked (moved R (left R k x) x) (choice R k x) (ranges-moved (left R k x) x (ranges-left R k x r) e)
 
 -- ---- One call
 

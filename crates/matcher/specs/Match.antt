@@ -15,17 +15,14 @@ use Rattle.model.specs.Matching.{readingOf}
 use Rattle.model.specs.Demand.{MatchCall}
 use Rattle.model.specs.declared.events.Event.{Event}
 use Rattle.model.specs.declared.answers.RecordRead.{RecordRead}
-use Rattle.model.specs.declared.answers.Matched.{Matched}
-use Rattle.machine.specs.Kept.{Kept, Step, choice, passesContext, stepped}
+use Rattle.machine.specs.Kept.{Kept, choice, passesContext, stepped}
 use Rattle.tables.specs.Layout.{tableLength}
 use Rattle.tables.specs.Reading.{decode}
 use Rattle.tables.specs.Whole.{whole}
 use Rattle.states.specs.declared.State.{State}
-use Rattle.states.specs.State.{keptOf, stateKeeping, wholeState}
-use Rattle.matcher.specs.declared.Answer.{Answer}
-
-abbrev pub matchCall : (bytes : List ℕ) → (order : ℕ) → MatchCall
-matchCall bytes order = record { bytes = bytes; order = order }
+use Rattle.states.specs.State.{keptOf, wholeState}
+use Rattle.acting.specs.declared.Answer.{Answer}
+use Rattle.acting.specs.Act.{matchCall, stepAnswer, refusedWith}
 
 -- ---- The number
 
@@ -74,14 +71,6 @@ matchSelection table setting s c =
     none
 
 -- ---- The whole answer: the case, and the state for the next call
-
--- the answer with the state that stands for what is kept
-unfoldable pub stepAnswer : Step → Answer
-stepAnswer s = record { matched = s .answer; state = stateKeeping (s .next) }
-
--- "A refused matcher call keeps the state and selects none."
-abbrev pub refusedWith : ℕ → State → Answer
-refusedWith n s = record { matched = Matched.Refused n; state = s }
 
 unfoldable pub callAnswer : (table : List ℕ) → Setting → State → MatchCall → Answer
 callAnswer table setting s c =

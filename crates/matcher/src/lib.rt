@@ -1,24 +1,15 @@
 // The matcher: at each record that is heard, the production that it completes, and the state for the next.
 ghost use mathlib.Core.Path.{_≡_};
 ghost use mathlib.Core.Bool.{not};
-ghost use Rattle.model.specs.Numbers.{matchOrder, recordNumber, matchedNumber, matchedSelection};
+ghost use Rattle.model.specs.Numbers.{matchOrder, matchedNumber, matchedSelection};
 ghost use Rattle.model.specs.Resolving.{isBadMap};
 ghost use Rattle.tables.specs.Whole.{whole};
 ghost use Rattle.keyboard.specs.Maps.{mapNumbers, modifierEntriesIn, lentSetting};
 ghost use Rattle.states.specs.State.{wholeState};
-ghost use Rattle.matcher.specs.Match.{tooShort, earlyChecks, refusedWith, matchCall, matchNumber, matchSelection, matchAnswer};
-
-mod moves;
-
-use model::answers::Matched;
-use model::answers::RecordRead;
+ghost use Rattle.acting.specs.Act.{matchCall};
+ghost use Rattle.matcher.specs.Match.{tooShort, earlyChecks, matchNumber, matchSelection, matchAnswer};
+use acting::Answer;
 use states::State;
-
-// What a call answers, and the state for the next call.
-pub struct Answer {
-    pub matched: Matched,
-    pub state: State,
-}
 
 // How many bytes a keyboard map has: 496 numbers of four bytes each. The modifier map follows it.
 const MAP_BYTES: usize = 1984;
@@ -78,26 +69,6 @@ fn refusal(table: &[u8], maps: &[u8], state: State) -> u8
     )
 }
 
-// A refused call keeps the state.
-fn refused(number: u8, old: State) -> Answer
-    ensures { λ r. ⌜ r ≡ refusedWith number old ⌝ }
-{
-    Answer {
-        matched: Matched::Refused(number),
-        state: old,
-    }
-}
-
-// The number that a record is refused with.
-fn number_of(read: RecordRead) -> u8
-    ensures { λ r. ⌜ r ≡ recordNumber read ⌝ }
-{
-    match read {
-        RecordRead::Event(_) => 0,
-        RecordRead::Refused(n) => n,
-    }
-}
-
 // One call: the whole answer, and by the enum's cases its number and its selection. 15 is never given: no stretch of more than
 // 24 events reads as a prefix of a whole table.
 pub fn match_event(
@@ -114,17 +85,7 @@ pub fn match_event(
 {
     let number = refusal(table, maps, state);
     if number != 0 {
-        return refused(number, state);
+        return acting::refused(number, state);
     }
-    let read = records::read_record(record, order);
-    let RecordRead::Event(x) = read else {
-        return refused(number_of(read), state);
-    };
-    if !types::has_type(table, x.code) {
-        return Answer {
-            matched: Matched::Dropped,
-            state,
-        };
-    }
-    moves::heard(table, maps, limit, state, x)
+    acting::act(table, maps, limit, state, record, order)
 }

@@ -2,3 +2,4 @@ pub mod Starred
 pub mod Sameness
 pub mod Tested
 pub mod Named
+pub mod Moving

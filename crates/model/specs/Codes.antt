@@ -19,6 +19,9 @@ buttonRelease = 5
 abbrev pub motionNotify : ℕ
 motionNotify = 6
 
+abbrev pub isMotion : ℕ → Bool
+isMotion code = eqb code motionNotify
+
 abbrev pub isKey : ℕ → Bool
 isKey code = inRange keyPress code keyRelease
 

@@ -1,13 +1,14 @@
--- Demand 3: one claim about every list of matcher calls (document 01, "Selection", from "Demand 3 is a single claim").
-use Prim.Native.Nat.{ℕ, _≤_, _<_}
+-- Demand 3: one claim about every list of matcher calls (document 01, "Selection", from "Demand 3 is a single claim"; document 02,
+-- R-2: "Demand 3 reads by these steps over every heard event in turn").
+use Prim.Native.Nat.{ℕ, _≤_}
 use mathlib.Core.Path.{_≡_}
 use mathlib.Core.Logic.{_⊎_}
 use mathlib.Core.Bool.{Bool, true, false, cond, not}
-use mathlib.Core.List.{List, [], _∷_, _++_}
+use mathlib.Core.List.{List, [], _∷_, _++_, List·Memᴰ}
 use mathlib.Core.Option.{Option, none, some}
 use lib.Dec.{eqb}
-use lib.ListN.{length}
-use Rattle.model.specs.Lists.{given}
+use lib.ListN.{length, take}
+use Rattle.model.specs.Lists.{given, beginning}
 use Rattle.model.specs.Limits.{mapLength}
 use Rattle.model.specs.Numbers.{MatchChecks, matchOrder, matchedNumber, matchedSelection}
 use Rattle.model.specs.Setting.{Setting}
@@ -16,7 +17,7 @@ use Rattle.model.specs.Modifiers.{bit}
 use Rattle.model.specs.Tables.{Table}
 use Rattle.model.specs.Compiling.{passesLimit, compiled, accepted}
 use Rattle.model.specs.Records.{isBadRecord, recordRead}
-use Rattle.model.specs.Selection.{Standing, standing}
+use Rattle.model.specs.Selection.{Standing, standing, contextEvents}
 use Rattle.model.specs.Matching.{readingOf, tests}
 use Rattle.model.specs.Merging.{mergedTable, mergePassesLimit}
 use Rattle.model.specs.declared.events.Event.{Event}
@@ -63,21 +64,22 @@ module _ (t : Table) (setting : Setting) where
   heardEvent (RecordRead.Event e) = cond (readingOf t setting .known e) (e ∷ []) []
   heardEvent (RecordRead.Refused n) = []
 
-  -- what a call adds to the history: "A call that the numbers above refuse .. adds nothing"
+  -- what a call brings to the history: "A call that the numbers above refuse .. adds nothing"
   unfoldable pub heard : MatchCall → List Event
   heard c = cond (eqb (callNumber c) 0) (heardEvent (recordRead (c .bytes) (c .order))) []
 
-  -- rule 2: "The rest are numbered in order from 1; that is the history."
-  unfoldable pub history : List MatchCall → List Event
-  history [] = []
-  history (c ∷ cs) = heard c ++ history cs
+  -- rule 2: "The rest are numbered in order from 1"
+  unfoldable pub heardAll : List MatchCall → List Event
+  heardAll [] = []
+  heardAll (c ∷ cs) = heard c ++ heardAll cs
 
-  abbrev pub standingAt : List MatchCall → ℕ → Standing
-  standingAt cs n = standing (readingOf t setting) (history cs) n
+  -- what stands after heard event n
+  abbrev pub standingAt : List MatchCall → ℕ → Standing Event
+  standingAt cs n = standing (readingOf t setting) (take n (heardAll cs))
 
-  -- what stands after the last event of the history of a list of calls
-  abbrev pub standingAfter : List MatchCall → Standing
-  standingAfter cs = standingAt cs (length (history cs))
+  -- what stands after the last heard event of a list of calls
+  abbrev pub standingAfter : List MatchCall → Standing Event
+  standingAfter cs = standing (readingOf t setting) (heardAll cs)
 
   abbrev pub selection : Option ℕ → Matched
   selection none = Matched.Heard
@@ -141,6 +143,14 @@ pub data Alike (others : ℕ → Bool) : List MatchCall → List MatchCall → T
       → LikeReads others (recordRead (c .bytes) (c .order)) (recordRead (d .bytes) (d .order))
       → Alike others cs ds → Alike others (c ∷ cs) (d ∷ ds)
 
+-- ---- Two selections
+
+-- "the events of two selections start at the same event or have none in common": events by the numbers under which they were
+-- heard, since two motions may take one place. R-2: "A replaced event belongs to the selections it ended and to no later one."
+abbrev pub Apart : List ℕ → List ℕ → Type 0
+Apart these those =
+    (beginning these ≡ beginning those) ⊎ ((n : ℕ) → List·Memᴰ n these → List·Memᴰ n those → ⊥)
+
 -- ---- The claim
 
 -- about one list of calls
@@ -154,13 +164,11 @@ pub record Demand3 {S : Type 0} (m : Matcher S) (t : Table) (setting : Setting) 
       → (matchedNumber (m .answer (stateAfter m (m .fresh) before) c) ≡ 0 → ⊥)
       → (matchedSelection (m .answer (stateAfter m (m .fresh) before) c) ≡ none)
       × (m .next (stateAfter m (m .fresh) before) c ≡ stateAfter m (m .fresh) before)
-  -- "the events of two selections start at the same event or have none in common": those at event i are from..i, those at
-  -- event j to..j, where `from` and `to` are the starts of the contexts open there
+  -- of the selections at heard events i and j, whose events are those of the contexts open there
   pub apart :
-      (i j from to : ℕ) → i ≤ j → j ≤ length (history t setting cs)
-      → given (standingAt t setting cs i .selected) ≡ true → standingAt t setting cs i .context ≡ some from
-      → given (standingAt t setting cs j .selected) ≡ true → standingAt t setting cs j .context ≡ some to
-      → (from ≡ to) ⊎ (i < to)
+      (i j : ℕ) → i ≤ j → j ≤ length (heardAll t setting cs)
+      → given (standingAt t setting cs i .selected) ≡ true → given (standingAt t setting cs j .selected) ≡ true
+      → Apart (contextEvents (standingAt t setting cs i)) (contextEvents (standingAt t setting cs j))
   -- "two lists alike in all but modifier bits that the table does not test get the same numbers and selections"
   pub blind :
       (ds : List MatchCall) → Alike (tests setting t) cs ds → answersFrom m (m .fresh) cs ≡ answersFrom m (m .fresh) ds

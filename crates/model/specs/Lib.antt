@@ -28,3 +28,4 @@ pub mod Demand
 pub mod Examples
 pub mod TestedExamples
 pub mod NamedExamples
+pub mod MotionExamples

@@ -58,3 +58,7 @@ module _ {A : Type 0} where
   abbrev pub isEmpty : List A → Bool
   isEmpty [] = true
   isEmpty (x ∷ xs) = false
+
+  abbrev pub beginning : List A → Option A
+  beginning [] = none
+  beginning (x ∷ xs) = some x

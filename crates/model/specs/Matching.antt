@@ -6,7 +6,7 @@ use mathlib.Core.Option.{Option, none, some}
 use lib.Dec.{eqb}
 use lib.ListN.{length}
 use Rattle.model.specs.Lists.{any, earliest}
-use Rattle.model.specs.Codes.{isKey}
+use Rattle.model.specs.Codes.{isKey, isMotion}
 use Rattle.model.specs.Names.{firstButtonBit, lastButtonBit}
 use Rattle.model.specs.Bytes.{inRange}
 use Rattle.model.specs.Modifiers.{isShiftOrLock}
@@ -72,6 +72,7 @@ readingOf t setting =
       known = λ x. any (hasType (x .code)) (t .productions);
       prefix = λ xs. any (readsAsPrefix setting xs) (t .productions);
       chosen = λ xs. earliest (isWholeSequence setting xs) 0 (t .productions);
+      motion = λ x. isMotion (x .code);
     }
 
 -- ---- "A bit is tested by a table" (TestedExamples has some lines and the bits that they test)

@@ -8,12 +8,12 @@ use mathlib.Core.Bool.{true}
 use mathlib.Core.List.{List, [], _∷_, _++_, append-nil, append-assoc}
 use lib.Dec.{ltb}
 use lib.ListN.{length, getD, set, take, drop, length-append, length-drop, take-append-drop}
-use lib.Seq.{take-at, take-add, ext-getD, getD-drop, getD-take, length-take-le, drop-append-add, sets-eq, getD-append-add}
+use lib.Seq.{take-at, drop-at, take-add, take-append-le, ext-getD, getD-drop, getD-take, length-take-le, drop-append-add, sets, sets-eq, length-sets, getD-append-add}
 use Rattle.words.specs.Words.{wordAt, zeros}
 use Rattle.words.specs.Runs.{run}
 use Rattle.words.proofs.Bools.{chain-parts, chain-all}
 use Rattle.words.proofs.Laws.{length-zeros, getD-zeros, zeros-add}
-use Rattle.words.proofs.RunLaws.{length-run, getD-run, run-append, run-last, run-list}
+use Rattle.words.proofs.RunLaws.{length-run, getD-run, run-append, run-more, run-last, run-list, run-same}
 use Rattle.keyboard.specs.Maps.{numberFrom}
 use Rattle.model.specs.declared.events.Event.{Event}
 use Rattle.states.specs.State.{zeroEvent, eventBytes, eventFrom, eventIn, slotsOf, putSlot, eventsBytes, inSlots, lowBytes}
@@ -89,6 +89,17 @@ event-at l j time state t s =
     (sym (at 1))
     (t ∙ rw (a, b, c, at 4, at 5, at 6, at 7))
     (s ∙ rw (f, e, at 2, at 3))
+
+pub length-put : (l : List ℕ) (j : ℕ) (x : Event) → length (putSlot l j x) ≡ length l
+unfolding putSlot
+length-put l j x = length-sets l (8 * j) (eventBytes x)
+
+-- its code alone
+pub slot-code : (l : List ℕ) (j : ℕ) → getD l (8 * j) 0 ≡ eventIn l j .code
+unfolding eventIn eventFrom
+slot-code l j =
+    let z : 8 * j ≡ 8 * j + 0 = omega arith in
+    ap (λ (k : ℕ). getD l k 0) z ∙ sym (getD-drop (8 * j) l 0 0)
 
 -- the eight stores
 pub stores : (l : List ℕ) (j : ℕ) (x : Event)
@@ -212,6 +223,87 @@ put-more xs x h =
     ∙ ap (drop 8) z ∙ drop-zeros (zeros (200 - 8 * length (xs ++ (x ∷ [])))))
     ∙ ap (λ (l : List ℕ). l ++ zeros (200 - 8 * length (xs ++ (x ∷ []))))
     (ap (λ (l : List ℕ). eventsBytes xs ++ l) (sym (append-nil (eventBytes x))) ∙ sym (bytes-append xs (x ∷ [])))
+
+-- ---- A slot that is stored into
+
+module _ {A : Type 0} (l vs : List A) (i : ℕ) (h : i + length vs ≤ length l) where
+  take-sets : take i (sets l i vs) ≡ take i l
+  take-sets =
+      let n = length-take-le i l (omega arith) in
+      ap (take i) (sets-eq vs l i h)
+      ∙ take-append-le i (take i l ++ vs) (drop (i + length vs) l) (omega (arith, length-append (take i l) vs))
+      ∙ take-at (take i l) vs i n
+
+  drop-sets : drop (i + length vs) (sets l i vs) ≡ drop (i + length vs) l
+  drop-sets =
+      let n = length-take-le i l (omega arith) in
+      ap (drop (i + length vs)) (sets-eq vs l i h)
+      ∙ drop-at (take i l ++ vs) (drop (i + length vs) l) (i + length vs) (omega (arith, length-append (take i l) vs))
+
+  sets-again : (ws : List A) → length ws ≡ length vs → sets (sets l i vs) i ws ≡ sets l i ws
+  sets-again ws e =
+      let n = length-sets l i vs in
+      sets-eq ws (sets l i vs) i (omega arith)
+      ∙ ap₂ (λ (p q : List A). p ++ ws ++ q) take-sets
+      (ap (λ (k : ℕ). drop (i + k) (sets l i vs)) e ∙ drop-sets ∙ ap (λ (k : ℕ). drop (i + k) l) (sym e))
+      ∙ sym (sets-eq ws l i (omega arith))
+
+module _ (l : List ℕ) (k : ℕ) (x : Event) (h : 8 * k + 8 ≤ length l) where
+  -- it holds the event
+  put-same : eventIn (putSlot l k x) k ≡ x
+  unfolding eventIn putSlot
+  put-same =
+      let n = length-take-le (8 * k) l (omega arith) in
+      let b : 8 * k + length (eventBytes x) ≤ length l = omega (arith, length-event x) in
+      ap (λ (p : List ℕ). eventFrom (drop (8 * k) p))
+      (sets-eq (eventBytes x) l (8 * k) b ∙ append-assoc (take (8 * k) l) (eventBytes x) (drop (8 * k + length (eventBytes x)) l))
+      ∙ ap eventFrom (drop-at (take (8 * k) l) (eventBytes x ++ drop (8 * k + length (eventBytes x)) l) (8 * k) n)
+      ∙ read-stored x (drop (8 * k + length (eventBytes x)) l)
+
+  put-below : (i j : ℕ) → i < k → j < 8 → getD (drop (8 * i) (putSlot l k x)) j 0 ≡ getD (drop (8 * i) l) j 0
+  unfolding putSlot
+  put-below i j b c =
+      let n : 8 * i + j < 8 * k = omega arith in
+      getD-drop (8 * i) (sets l (8 * k) (eventBytes x)) j 0
+      ∙ sym (getD-take (8 * k) (sets l (8 * k) (eventBytes x)) (8 * i + j) 0 n)
+      ∙ ap (λ (p : List ℕ). getD p (8 * i + j) 0) (take-sets l (eventBytes x) (8 * k) (omega (arith, length-event x)))
+      ∙ getD-take (8 * k) l (8 * i + j) 0 n
+      ∙ sym (getD-drop (8 * i) l j 0)
+
+  -- those before it hold what they held
+  put-before : (i : ℕ) → i < k → eventIn (putSlot l k x) i ≡ eventIn l i
+  unfolding eventIn eventFrom numberFrom
+  put-before i b =
+      let at : (j : ℕ) → j < 8 → getD (drop (8 * i) (putSlot l k x)) j 0 ≡ getD (drop (8 * i) l) j 0 = λ j c. put-below i j b c in
+      rw (at 0 (omega arith), at 1 (omega arith), at 2 (omega arith), at 3 (omega arith), at 4 (omega arith), at 5 (omega arith), at 6 (omega arith), at 7 (omega arith))
+
+-- what was in it is gone
+put-again : (l : List ℕ) (k : ℕ) (m x : Event) → 8 * k + 8 ≤ length l → putSlot (putSlot l k m) k x ≡ putSlot l k x
+unfolding putSlot
+put-again l k m x h =
+    let a = length-event m in
+    let b = length-event x in
+    sets-again l (eventBytes m) (8 * k) (omega arith) (eventBytes x) (omega arith)
+
+-- the slots up to it
+pub take-put : (l : List ℕ) (k : ℕ) (x : Event) → length l ≡ 200 → k < 25
+    → take (k + 1) (slotsOf (putSlot l k x)) ≡ take k (slotsOf l) ++ (x ∷ [])
+take-put l k x n h =
+    let b : 8 * k + 8 ≤ length l = omega arith in
+    first-slots (putSlot l k x) (k + 1) (omega arith)
+    ∙ run-more (eventIn (putSlot l k x)) 0 k
+    ∙ ap₂ (λ (p : List Event) (y : Event). p ++ (y ∷ []))
+    (run-same (eventIn (putSlot l k x)) (eventIn l) 0 0 k (λ i c. rw zero-add (put-before l k x b i c)) ∙ sym (first-slots l k (omega arith)))
+    (ap (eventIn (putSlot l k x)) (zero-add k) ∙ put-same l k x b)
+
+-- another event in the place of the last
+pub put-last : (ys : List Event) (m x : Event) → length ys < 25
+    → putSlot (inSlots (ys ++ (m ∷ []))) (length ys) x ≡ inSlots (ys ++ (x ∷ []))
+put-last ys m x h =
+    let n = length-in ys (omega arith) in
+    ap (λ (l : List ℕ). putSlot l (length ys) x) (sym (put-more ys m h))
+    ∙ put-again (inSlots ys) (length ys) m x (omega arith)
+    ∙ put-more ys x h
 
 -- ---- Bytes in which events are read
 

@@ -1,6 +1,6 @@
 -- The matcher's state: which values of the type are whole, and what a whole one stands for.
 use Prim.Native.Nat.{ℕ, _+_, _*_, _-_, _/_, _%_}
-use mathlib.Core.Bool.{Bool, not, _&&_, _||_}
+use mathlib.Core.Bool.{Bool, false, not, _&&_, _||_}
 use mathlib.Core.List.{List, [], _∷_, _++_}
 use lib.Dec.{eqb, leb, ltb}
 use lib.ListN.{length, getD, take, drop}
@@ -9,6 +9,7 @@ use Rattle.words.specs.Words.{zeros}
 use Rattle.words.specs.Runs.{run, every}
 use Rattle.keyboard.specs.Maps.{numberFrom}
 use Rattle.model.specs.Limits.{textLimit, productionLimit, sequenceLimit, eventLimit, callsOfProductionLimit, callLimit, parametersOfCallLimit, parameterLimit}
+use Rattle.model.specs.Codes.{isMotion}
 use Rattle.model.specs.declared.events.Event.{Event}
 use Rattle.machine.specs.Kept.{Kept, contextLimit}
 use Rattle.states.specs.declared.State.{State}
@@ -63,19 +64,18 @@ inSlots xs = eventsBytes xs ++ zeros (slotBytes - 8 * length xs)
 -- ---- What a state stands for
 
 unfoldable pub keptOf : State → Kept Event
-keptOf s = record { events = take (s .kept) (slotsOf (s .events)); selected = s .selected }
+keptOf s = record { events = take (s .kept) (slotsOf (s .events)); selected = s .selected; isOpen = s .«open» }
 
--- the state that holds these events and this mark
-unfoldable pub stateWith : List Event → ℕ → State
-stateWith xs selected =
-    record { kept = length xs; selected = selected; «open» = not (eqb (length xs) 0); events = inSlots xs }
+-- the state that holds these events and marks
+unfoldable pub stateWith : List Event → (selected : ℕ) → (isOpen : Bool) → State
+stateWith xs selected isOpen = record { kept = length xs; selected = selected; «open» = isOpen; events = inSlots xs }
 
 unfoldable pub stateKeeping : Kept Event → State
-stateKeeping k = stateWith (k .events) (k .selected)
+stateKeeping k = stateWith (k .events) (k .selected) (k .isOpen)
 
 -- "A fresh state holds no events": all zero
 abbrev pub freshState : State
-freshState = stateWith [] 0
+freshState = stateWith [] 0 false
 
 -- "has the table limits as its own constants": these, in 01's order, and how many events a context keeps
 abbrev pub stateLimits : List ℕ
@@ -101,19 +101,25 @@ usedWhole l i = eventWhole (eventIn l i)
 unfoldable pub byteZero : List ℕ → ℕ → Bool
 byteZero l k = eqb (getD l k 0) 0
 
--- the first slots hold events of the context, and every byte after them is zero
+-- the first slots hold the events that are kept, and every byte after them is zero
 unfoldable pub slotsWhole : List ℕ → ℕ → Bool
 slotsWhole l kept =
     every (lowBytes l) 0 kept && every (usedWhole l) 0 kept && every (byteZero l) (8 * kept) (slotBytes - 8 * kept)
 
+-- an open context has an event; where none is open nothing is used up
 unfoldable pub marksWhole : (kept selected : ℕ) (isOpen : Bool) → Bool
-marksWhole kept selected isOpen = leb kept contextLimit && leb selected kept && ((isOpen && not (eqb kept 0)) || (not isOpen && eqb kept 0))
+marksWhole kept selected isOpen =
+    leb kept contextLimit && leb selected kept && ((isOpen && not (eqb kept 0)) || (not isOpen && eqb selected 0))
 
--- at most 24 events, the mark within them, open exactly where there is one; every slot as it must be. Every value of the
--- type has 200 bytes. A test of ranges: states that no call leaves pass it too, such as one whose events read as a prefix of
--- no production.
+-- with no context open events are kept for a motion that replaces the last of them, which is then a motion (R-2)
+unfoldable pub lastWhole : List ℕ → (kept : ℕ) (isOpen : Bool) → Bool
+lastWhole l kept isOpen = isOpen || eqb kept 0 || isMotion (eventIn l (kept - 1) .code)
+
+-- at most 24 events, the marks within them, every slot as it must be. Every value of the type has 200 bytes. A test of ranges:
+-- states that no call leaves pass it too, such as one whose context reads as a prefix of no production.
 unfoldable pub wholeState : State → Bool
 wholeState s =
     eqb (length (s .events)) slotBytes
     && marksWhole (s .kept) (s .selected) (s .«open»)
     && slotsWhole (s .events) (s .kept)
+    && lastWhole (s .events) (s .kept) (s .«open»)

@@ -1,21 +1,24 @@
-// The matcher's state, by value. Between calls it keeps the events of the open context and nothing else.
+// The matcher's state, by value. Between calls it keeps the events of the open context or, where none is open, those that a motion
+// in the place of the last might still begin a context at; and nothing else.
 ghost use mathlib.Core.Path.{_≡_};
 ghost use Prim.Native.Nat.{_+_, _*_, _-_, _≤_};
 ghost use lib.ListN.{length};
-ghost use Rattle.states.specs.State.{eventWhole, usedWhole, byteZero, slotsWhole, marksWhole, wholeState, freshState, stateLimits};
+ghost use Rattle.states.specs.State.{eventWhole, usedWhole, byteZero, slotsWhole, marksWhole, lastWhole, wholeState, freshState, stateLimits};
 ghost use Rattle.words.specs.Runs.{every};
 use model::events::Event;
 
 pub mod slots;
 
 pub struct State {
-    // How many events the context has.
+    // How many events are kept.
     pub kept: usize,
     // How many of them lie at or before the last event at which anything was selected.
     pub selected: usize,
+    // Whether a context is open.
     pub open: bool,
-    // 25 slots of 8 bytes, one slot more than a context keeps: code, detail, state and time, the least significant byte
-    // first. Those that are not used are zero, so that equal contexts are equal states.
+    // The events of the open context or, where none is open, those that a motion in the place of the last might still begin a
+    // context at. 25 slots of 8 bytes, one slot more than are kept: code, detail, state and time, the least significant byte
+    // first. Those that are not used are zero, so that states that keep the same are equal.
     pub events: [u8; 200],
 }
 
@@ -76,7 +79,7 @@ fn event_whole(e: Event) -> bool
     (2 <= e.code) & (e.code <= 34) & (e.state < 8192) & ((3 < e.code) | (8 <= e.detail))
 }
 
-// Whether every slot of the context holds such an event.
+// Whether every slot that is used holds such an event.
 fn used_whole(events: &[u8], kept: usize) -> bool
     requires { ⌜ 8 * kept ≤ length (now events) ⌝ }
     ensures { λ r. ⌜ r ≡ every (usedWhole (now (events .entry))) 0 kept ⌝ }
@@ -104,7 +107,7 @@ fn bytes_zero(l: &[u8], k: usize, n: usize) -> bool
     clean
 }
 
-// Every slot holds an event of the context or, past them, zero.
+// Every slot holds an event that is kept or, past them, zero.
 fn slots_whole(events: &[u8], kept: usize) -> bool
     requires { ⌜ (length (now events) ≡ 200) × (kept ≤ 24) ⌝ }
     ensures { λ r. ⌜ r ≡ slotsWhole (now (events .entry)) kept ⌝ }
@@ -112,11 +115,27 @@ fn slots_whole(events: &[u8], kept: usize) -> bool
     used_whole(events, kept) & bytes_zero(events, 8 * kept, 200 - 8 * kept)
 }
 
+// An open context has an event; where none is open nothing is used up.
 fn marks_whole(kept: usize, selected: usize, open: bool) -> bool
     ensures { λ r. ⌜ r ≡ marksWhole kept selected «open» ⌝ }
 {
-    let empty = kept == 0;
-    (kept <= State::CONTEXT_EVENTS) & (selected <= kept) & ((open & !empty) | (!open & empty))
+    (kept <= State::CONTEXT_EVENTS)
+        & (selected <= kept)
+        & ((open & (kept != 0)) | (!open & (selected == 0)))
+}
+
+// Where no context is open, the last event is one that a motion replaces.
+fn last_whole(events: &[u8], kept: usize, open: bool) -> bool
+    requires { ⌜ 8 * kept ≤ length (now events) ⌝ }
+    ensures { λ r. ⌜ r ≡ lastWhole (now (events .entry)) kept «open» ⌝ }
+{
+    if open {
+        return true;
+    }
+    if kept == 0 {
+        return true;
+    }
+    slots::motion_at(events, kept - 1)
 }
 
 // Whether every part of a state is in its range. Every state that a call leaves is whole, and so are some that none leaves.
@@ -124,8 +143,9 @@ pub fn state_whole(s: State) -> bool
     ensures { λ r. ⌜ r ≡ wholeState s ⌝ }
 {
     let kept = s.kept;
-    if !marks_whole(kept, s.selected, s.open) {
+    let open = s.open;
+    if !marks_whole(kept, s.selected, open) {
         return false;
     }
-    slots_whole(&s.events, kept)
+    slots_whole(&s.events, kept) & last_whole(&s.events, kept, open)
 }

@@ -2,8 +2,12 @@
 ghost use mathlib.Core.Path.{_≡_};
 ghost use Prim.Native.Nat.{_+_, _*_, _≤_};
 ghost use lib.ListN.{length};
+ghost use Rattle.model.specs.Codes.{isMotion};
 ghost use Rattle.states.specs.State.{eventIn, putSlot};
 use model::events::Event;
+
+// The code of a motion event.
+pub const MOTION: u8 = 6;
 
 // The event in slot j.
 pub fn event_at(events: &[u8], j: usize) -> Event
@@ -17,6 +21,14 @@ pub fn event_at(events: &[u8], j: usize) -> Event
         time: keyboard::number_from(events, at + 4),
         state: words::word_at(events, 4 * j + 1),
     }
+}
+
+// Whether slot j holds a motion event.
+pub fn motion_at(events: &[u8], j: usize) -> bool
+    requires { ⌜ 8 * j + 8 ≤ length (now events) ⌝ }
+    ensures { λ r. ⌜ r ≡ isMotion (eventIn (now (events .entry)) j .code) ⌝ }
+{
+    events[8 * j] == MOTION
 }
 
 // Stores an event in slot j.

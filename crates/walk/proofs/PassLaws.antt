@@ -20,7 +20,7 @@ use Rattle.model.specs.Counts.{Element, expanded, sequence}
 use Rattle.model.specs.Matching.{fits, follows, readsAsPrefix, isWholeSequence, readingOf}
 use Rattle.model.specs.Selection.{Reading}
 use Rattle.model.specs.declared.events.Event.{Event}
-use Rattle.machine.specs.Kept.{longestEnd, chosenIn}
+use Rattle.machine.specs.Kept.{longestEnd}
 use Rattle.machine.proofs.Track.{longest-yes, longest-no}
 use Rattle.tables.specs.Layout.{productionEventsAt}
 use Rattle.tables.specs.Reading.{productionTotal, eventTotal, productionEvents, firstEvent, eventEntry, productionEntry, decode}
@@ -160,10 +160,6 @@ module _ (t : Table) (setting : Setting) where
   passed-chosen xs =
       passes-chosen (followed setting xs) 0 false (t .productions)
       ∙ earliest-each (λ p. completes (followed setting xs p)) (isWholeSequence setting xs) (followed-completes setting xs) 0 (t .productions)
-
-  pub passed-in : (xs : List Event) → chosenBy (passedIn t setting xs) ≡ chosenIn (readingOf t setting) xs
-  passed-in [] = refl
-  passed-in (x ∷ xs) = passed-chosen (x ∷ xs)
 
 -- ---- The pass as a loop over the table's bytes
 

@@ -3,7 +3,7 @@
 use super::productions::{few_bits, keysym};
 use crate::counts::Element;
 use crate::keyboard::{lower, upper, FIRST_KEYCODE, MAP_LENGTH};
-use crate::modifiers::{Asked, ALL, BUTTONS};
+use crate::modifiers::{Asked, ALL, BUTTON1, BUTTONS};
 use crate::names::{self, Name};
 use crate::random::Random;
 use crate::records::{self, read_record, Event, BIG_ENDIAN, LITTLE_ENDIAN, RECORD_BYTES};
@@ -203,26 +203,38 @@ impl Player<'_> {
     fn step(&mut self, sequences: &[Vec<Resolved>]) {
         if sequences.is_empty() || self.random.percent(10) {
             self.noise();
+        } else if self.random.percent(15) {
+            self.motions(None, sequences);
         } else {
             let sequence = self.random.pick(sequences);
-            self.play(sequence);
+            self.play(sequence, sequences);
         }
     }
 
     /// Follows a sequence to its end or nearly so, with an interruption or a flaw at times.
-    fn play(&mut self, sequence: &[Resolved]) {
+    fn play(&mut self, sequence: &[Resolved], sequences: &[Vec<Resolved>]) {
         let flawless = self.random.percent(60);
         let stop = match self.random.percent(80) {
             true => sequence.len(),
             false => self.random.below(sequence.len() + 1),
         };
         let mut times = Vec::new();
+        if self.random.percent(25) {
+            // The first one twice, so that the sequence begins inside another one's context.
+            let mut event = self.matching(&sequence[0]);
+            event.time = self.clock;
+            self.emit(event);
+        }
         for resolved in &sequence[..stop] {
             if self.random.percent(4) {
                 self.refused();
             }
             if !flawless && self.random.percent(10) {
                 self.noise();
+            }
+            if resolved.element.code == names::MOTION_NOTIFY && self.random.percent(90) {
+                let wanted = self.random.percent(50).then_some(resolved);
+                self.motions(wanted, sequences);
             }
             let mut event = self.matching(resolved);
             if !flawless && self.random.percent(10) {
@@ -235,6 +247,56 @@ impl Player<'_> {
             times.push(self.clock);
             event.time = self.clock;
             self.emit(event);
+        }
+    }
+
+    /// One to seven motions, with dropped and refused records among them at times. Each matches the
+    /// wanted element, or any where none is wanted.
+    fn motions(&mut self, wanted: Option<&Resolved>, sequences: &[Vec<Resolved>]) {
+        for _ in 0..self.random.range(1, 7) {
+            match self.random.below(20) {
+                0 => self.refused(),
+                1 => self.dropped(sequences),
+                _ => {}
+            }
+            let mut event = match wanted {
+                Some(resolved) => self.matching(resolved),
+                None => self.motion(sequences),
+            };
+            self.clock = self.clock.wrapping_add(self.random.below(30) as u32);
+            event.time = self.clock;
+            self.emit(event);
+        }
+    }
+
+    /// A motion that some element matches, one with no bit or Button1 set, or any other.
+    fn motion(&mut self, sequences: &[Vec<Resolved>]) -> Event {
+        let of_motions = |resolved: &&Resolved| resolved.element.code == names::MOTION_NOTIFY;
+        let motions: Vec<&Resolved> = sequences.iter().flatten().filter(of_motions).collect();
+        if !motions.is_empty() && self.random.percent(50) {
+            let resolved = *self.random.pick(&motions);
+            return self.matching(resolved);
+        }
+        Event {
+            code: names::MOTION_NOTIFY,
+            detail: *self.random.pick(&[0, 0, 0, 1, 1, 2]),
+            time: 0,
+            state: match self.random.below(10) {
+                0..=3 => 0,
+                4..=7 => BUTTON1,
+                _ => self.random.card16() & ALL,
+            },
+        }
+    }
+
+    /// An event that the table drops, if one is found in a few tries.
+    fn dropped(&mut self, sequences: &[Vec<Resolved>]) {
+        for _ in 0..4 {
+            let code = self.code_up_to(names::LAST_CODE);
+            let mut elements = sequences.iter().flatten();
+            if !elements.any(|resolved| resolved.element.code == code) {
+                return self.any_of(code);
+            }
         }
     }
 
@@ -325,9 +387,17 @@ impl Player<'_> {
             true => names::LEAVE_NOTIFY,
             false => names::LAST_CODE,
         };
-        let code = self
-            .random
-            .range(usize::from(names::FIRST_CODE), usize::from(last)) as u8;
+        let code = self.code_up_to(last);
+        self.any_of(code);
+    }
+
+    fn code_up_to(&mut self, last: u8) -> u8 {
+        let codes = (usize::from(names::FIRST_CODE), usize::from(last));
+        self.random.range(codes.0, codes.1) as u8
+    }
+
+    /// Any event of a type.
+    fn any_of(&mut self, code: u8) {
         let event = Event {
             code,
             detail: self.any_detail(code),

@@ -2,9 +2,9 @@
 
 use crate::calls::{CallContents, ProductionContents};
 use crate::counts;
-use crate::details::{self, Taken, KEYS, LARGEST_KEYSYM, LARGEST_NUMBER};
+use crate::details::{self, Taken, HINT, KEYS, LARGEST_KEYSYM, LARGEST_NUMBER, NORMAL};
 use crate::limits;
-use crate::modifiers::{self, ListedName, ModifierTest, Named, ALL, BUTTONS};
+use crate::modifiers::{self, ListedName, ModifierTest, Named, ALL, BUTTON1, BUTTONS};
 use crate::names::{self, Name, RELATIVES};
 use crate::random::Random;
 use crate::table::EventSpec;
@@ -32,28 +32,163 @@ pub fn productions(random: &mut Random, most: usize, longest: usize) -> Vec<Prod
     all
 }
 
-/// Productions over a few kinds of events, with shared beginnings and ends.
+/// Productions over a few kinds of events, with shared beginnings and ends. Most tables have lines
+/// with motions among them.
 pub fn related_productions(random: &mut Random) -> Vec<ProductionContents> {
     let named = name_chance(random);
     let kinds: Vec<EventSpec> = (0..random.range(1, 4))
         .map(|_| event(random, named))
         .collect();
+    let drags = random.percent(85).then(|| Drags::new(random, named));
     let longest = *random.pick(&[1, 2, 3, 3, 4, 6, 24]);
     let mut all: Vec<ProductionContents> = Vec::new();
-    for _ in 0..random.range(1, 8) {
+    if let (Some(drags), true) = (&drags, random.percent(50)) {
+        for lines in [AFTER_TWO, AFTER_ONE] {
+            let events = drags.line(random, lines, &kinds);
+            let calls = vec![call(random)];
+            all.push(ProductionContents { events, calls });
+        }
+    }
+    for _ in 0..random.range(1, 7) {
         let mut events = match random.percent(40) && !all.is_empty() {
             true => part_of(random, &all),
             false => Vec::new(),
         };
-        for _ in 0..random.range(1, longest) {
-            let kind = random.pick(&kinds).clone();
-            events.push(varied(random, kind));
+        match &drags {
+            Some(drags) if random.percent(65) => {
+                let lines = *random.pick(&[AFTER_ONE, AFTER_TWO, OTHERS, OTHERS]);
+                events.extend(drags.line(random, lines, &kinds));
+            }
+            _ => {
+                for _ in 0..random.range(1, longest) {
+                    let kind = random.pick(&kinds).clone();
+                    events.push(varied(random, kind));
+                }
+            }
         }
         cut_to_limit(&mut events);
         let calls = vec![call(random)];
         all.push(ProductionContents { events, calls });
     }
     all
+}
+
+/// The events of a table's lines with motions.
+struct Drags {
+    press: EventSpec,
+    release: EventSpec,
+    motions: Vec<EventSpec>,
+}
+
+/// What stands in a line: a motion, the press, the release, or another kind of event.
+enum Part {
+    Motion,
+    Press,
+    Release,
+    Other,
+}
+
+/// Lines that begin with one press and a motion, and lines that begin with two presses. In a table
+/// with both, a motion can close the context of the first press and leave the second for another.
+const AFTER_ONE: &[&[Part]] = {
+    use Part::*;
+    &[
+        &[Press, Motion],
+        &[Press, Motion, Release],
+        &[Press, Motion, Release],
+        &[Press, Motion, Other],
+        &[Press, Motion, Motion, Release],
+    ]
+};
+const AFTER_TWO: &[&[Part]] = {
+    use Part::*;
+    &[
+        &[Press, Press, Press],
+        &[Press, Press, Release],
+        &[Press, Press, Other],
+        &[Press, Press, Motion],
+        &[Press, Press, Motion, Release],
+        &[Press, Press, Press, Motion],
+    ]
+};
+
+/// Other lines with motions: at the start, in the middle, at the end, side by side; or with none.
+const OTHERS: &[&[Part]] = {
+    use Part::*;
+    &[
+        &[Motion],
+        &[Motion],
+        &[Motion, Other],
+        &[Motion, Press],
+        &[Motion, Press, Motion],
+        &[Motion, Motion],
+        &[Other, Motion],
+        &[Other, Motion, Other],
+        &[Press, Other, Motion, Release],
+        &[Press, Release],
+    ]
+};
+
+impl Drags {
+    fn new(random: &mut Random, named: usize) -> Drags {
+        let press = EventSpec {
+            code: names::BUTTON_PRESS,
+            count: 1,
+            test: match random.percent(40) {
+                true => ModifierTest::default(),
+                false if random.percent(named) => named_test(random, names::BUTTON_PRESS),
+                false => test(random, names::BUTTON_PRESS),
+            },
+            detail: random.percent(50).then_some(1),
+        };
+        let release = EventSpec {
+            code: names::BUTTON_RELEASE,
+            test: ModifierTest::default(),
+            ..press.clone()
+        };
+        Drags {
+            press,
+            release,
+            motions: (0..random.range(1, 3))
+                .map(|_| motion(random, named))
+                .collect(),
+        }
+    }
+
+    /// One of the lines, with the other events of these kinds.
+    fn line(&self, random: &mut Random, lines: &[&[Part]], kinds: &[EventSpec]) -> Vec<EventSpec> {
+        let line = *random.pick(lines);
+        let event = |part: &Part| match part {
+            Part::Motion => random.pick(&self.motions).clone(),
+            Part::Press => self.press.clone(),
+            Part::Release => self.release.clone(),
+            Part::Other => random.pick(kinds).clone(),
+        };
+        line.iter().map(event).collect()
+    }
+}
+
+/// `<Btn1Motion>`, `<Motion>`, `<BtnMotion>` or any other motion, each with Normal or Hint at times.
+fn motion(random: &mut Random, named: usize) -> EventSpec {
+    let test = match random.below(10) {
+        0..=1 => ModifierTest {
+            set: BUTTON1,
+            ..ModifierTest::default()
+        },
+        2..=3 => ModifierTest::default(),
+        4 => ModifierTest {
+            clause: true,
+            ..ModifierTest::default()
+        },
+        _ if random.percent(named) => named_test(random, names::MOTION_NOTIFY),
+        _ => test(random, names::MOTION_NOTIFY),
+    };
+    EventSpec {
+        code: names::MOTION_NOTIFY,
+        count: 1,
+        test,
+        detail: *random.pick(&[None, None, None, Some(NORMAL), Some(HINT)]),
+    }
 }
 
 fn part_of(random: &mut Random, all: &[ProductionContents]) -> Vec<EventSpec> {

@@ -16,12 +16,18 @@ pub const ORDER: u8 = b'l';
 
 pub type Record = [u8; 32];
 
-const POINTER: &str = "\
+const FIRST_BUTTON: &str = "\
 Shift<Btn1Down>(2): grant(space,all)
 <Btn1Down>(2): grant(space)
 Shift<Btn1Down>: extend(bucket)
 <Btn1Down>: look(bucket)
-<Btn2Down>,<Btn2Up>: paste(clipboard)
+";
+
+/// A click, and the drag that stands in its place in a table with one.
+const CLICK: &str = "<Btn2Down>,<Btn2Up>: paste(clipboard)\n";
+const DRAG: &str = "<Btn1Down>,<Btn1Motion>,<Btn1Up>: drag(bucket)\n";
+
+const OTHER_POINTER: &str = "\
 Ctrl<Btn3Down>: menu(desk)
 <Btn3Down>(2): menu(all)
 <Btn3Down>: menu(bucket)
@@ -48,30 +54,29 @@ Mod1<Key>space: menu(window)
 :<Key>-: zoom(out)
 ";
 
-/// The modifier that a table's letters are bound with.
+/// A table: its letters are bound with Ctrl or with Meta, or it has a drag.
 #[derive(Clone, Copy, PartialEq, Eq)]
-pub enum Letters {
+pub enum Lines {
     Ctrl,
     Meta,
+    Drag,
 }
 
-impl Letters {
-    /// Meta is the keyboard's fourth modifier.
-    fn bit(self) -> u16 {
-        match self {
-            Letters::Ctrl => CTRL,
-            Letters::Meta => MOD4,
-        }
-    }
-}
+/// The modifier of the letters. Meta is the keyboard's fourth.
+const LETTERS: u16 = CTRL;
+const LETTERS_WITH_META: u16 = MOD4;
 
 /// The table's text: 10 productions on the pointer, 54 on keys, 26 of them letters.
-pub fn text(letters: Letters) -> String {
-    let modifier = match letters {
-        Letters::Ctrl => "Ctrl",
-        Letters::Meta => "Meta",
+pub fn text(lines: Lines) -> String {
+    let modifier = match lines {
+        Lines::Ctrl | Lines::Drag => "Ctrl",
+        Lines::Meta => "Meta",
     };
-    let mut text = format!("#override\n{POINTER}{NAMED_KEYS}");
+    let click = match lines {
+        Lines::Ctrl | Lines::Meta => CLICK,
+        Lines::Drag => DRAG,
+    };
+    let mut text = format!("#override\n{FIRST_BUTTON}{click}{OTHER_POINTER}{NAMED_KEYS}");
     for number in 1..=12 {
         text += &format!("<Key>F{number}: function(number, \"{number}\")\n");
     }
@@ -165,10 +170,10 @@ pub fn map() -> Vec<u32> {
     map
 }
 
-fn letter(random: &mut Random, letters: Letters) -> Key {
+fn letter_with_meta(random: &mut Random) -> Key {
     Key {
         keycode: LETTERS_FROM + random.below(26) as u8,
-        state: letters.bit(),
+        state: LETTERS_WITH_META,
     }
 }
 
@@ -177,7 +182,7 @@ fn named_key(random: &mut Random) -> Key {
     match random.below(54) {
         at @ 0..=25 => Key {
             keycode: LETTERS_FROM + at as u8,
-            state: Letters::Ctrl.bit(),
+            state: LETTERS,
         },
         at @ 26..=37 => Key {
             keycode: FUNCTIONS_FROM + (at - 26) as u8,
@@ -270,6 +275,18 @@ impl Stream {
         self.push(MOTION_NOTIFY, 0, 0);
     }
 
+    /// A press, forty motions and a release.
+    fn drag(&mut self) {
+        self.push(BUTTON_PRESS, 1, 0);
+        for _ in 0..40 {
+            self.wait(5, 20);
+            self.push(MOTION_NOTIFY, 0, BUTTON1);
+        }
+        self.wait(20, 60);
+        self.push(BUTTON_RELEASE, 1, BUTTON1);
+        self.wait(300, 900);
+    }
+
     fn stroke(&mut self, key: Key) {
         self.push(KEY_PRESS, key.keycode, key.state);
         self.wait(30, 90);
@@ -316,25 +333,25 @@ impl Stream {
 /// A stream with its name, and the table that it is for.
 pub struct Measured {
     pub name: &'static str,
-    pub letters: Letters,
+    pub lines: Lines,
     pub records: Vec<Record>,
 }
 
 pub fn streams(length: usize) -> Vec<Measured> {
-    let measured = |name, letters, records| Measured {
+    let measured = |name, lines, records| Measured {
         name,
-        letters,
+        lines,
         records,
     };
     vec![
         measured(
             "button pairs, double clicks",
-            Letters::Ctrl,
+            Lines::Ctrl,
             Stream::of(1, length, Stream::clicks),
         ),
         measured(
             "keys that hit",
-            Letters::Ctrl,
+            Lines::Ctrl,
             Stream::of(2, length, |stream| {
                 let key = stream.named();
                 stream.push(KEY_PRESS, key.keycode, key.state);
@@ -342,7 +359,7 @@ pub fn streams(length: usize) -> Vec<Measured> {
         ),
         measured(
             "keys that miss",
-            Letters::Ctrl,
+            Lines::Ctrl,
             Stream::of(3, length, |stream| {
                 let key = stream.unnamed();
                 stream.push(KEY_PRESS, key.keycode, key.state);
@@ -350,18 +367,23 @@ pub fn streams(length: usize) -> Vec<Measured> {
         ),
         measured(
             "motion that none names",
-            Letters::Ctrl,
+            Lines::Ctrl,
             Stream::of(4, length, Stream::motion),
         ),
-        measured("mixed", Letters::Ctrl, Stream::of(5, length, Stream::mixed)),
+        measured("mixed", Lines::Ctrl, Stream::of(5, length, Stream::mixed)),
         measured(
             "keys bound with Meta",
-            Letters::Meta,
+            Lines::Meta,
             Stream::of(6, length, |stream| {
                 stream.wait(40, 300);
-                let key = letter(&mut stream.random, Letters::Meta);
+                let key = letter_with_meta(&mut stream.random);
                 stream.push(KEY_PRESS, key.keycode, key.state);
             }),
+        ),
+        measured(
+            "drags of forty motions",
+            Lines::Drag,
+            Stream::of(7, length, Stream::drag),
         ),
     ]
 }

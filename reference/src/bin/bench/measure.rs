@@ -1,8 +1,8 @@
 //! The proved library and plain Rust side by side, with their results compared.
 
 use crate::capi;
-use crate::desk::{self, Letters, Measured, Record, MULTI_CLICK_TIME, ORDER};
-use glykorant_reference::layout::{self, Context, STATE_BYTES, TABLE_BYTES};
+use crate::desk::{self, Lines, Measured, Record, MULTI_CLICK_TIME, ORDER};
+use glykorant_reference::layout::{self, State, STATE_BYTES, TABLE_BYTES};
 use glykorant_reference::{compile, BoundedMatcher, Maps, Matcher, Number, Table};
 use std::hint::black_box;
 use std::process::ExitCode;
@@ -47,8 +47,9 @@ pub fn main() -> ExitCode {
 }
 
 fn run() -> Result<(), String> {
-    let desk = make(Letters::Ctrl)?;
-    let with_meta = make(Letters::Meta)?;
+    let desk = make(Lines::Ctrl)?;
+    let with_meta = make(Lines::Meta)?;
+    let with_drag = make(Lines::Drag)?;
     println!(
         "{} productions, {} bytes of text, {LENGTH} events a stream; the least of many runs",
         desk.table.productions.len(),
@@ -65,13 +66,14 @@ fn run() -> Result<(), String> {
     );
     for Measured {
         name,
-        letters,
+        lines,
         records,
     } in desk::streams(LENGTH)
     {
-        let desk = match letters {
-            Letters::Ctrl => &desk,
-            Letters::Meta => &with_meta,
+        let desk = match lines {
+            Lines::Ctrl => &desk,
+            Lines::Meta => &with_meta,
+            Lines::Drag => &with_drag,
         };
         same_results(desk, &records).map_err(|message| format!("{name}: {message}"))?;
         let proved = nanoseconds(&records, || on_bytes(desk, &records, proved_call));
@@ -90,8 +92,8 @@ fn run() -> Result<(), String> {
     Ok(())
 }
 
-fn make(letters: Letters) -> Result<Desk, String> {
-    let text = desk::text(letters).into_bytes();
+fn make(lines: Lines) -> Result<Desk, String> {
+    let text = desk::text(lines).into_bytes();
     let table = compile(&text).map_err(|refusal| format!("the table: {refusal:?}"))?;
     let mut bytes = vec![0; TABLE_BYTES];
     let answer = capi::compile(&text, &mut bytes);
@@ -114,7 +116,7 @@ fn make(letters: Letters) -> Result<Desk, String> {
     })
 }
 
-/// Every event's number and selection, and the state after it. The matcher over the whole history
+/// Every event's number and selection, and the state after it. The matcher over the history
 /// decides.
 fn same_results(desk: &Desk, records: &[Record]) -> Result<(), String> {
     let mut rules = Matcher::new(&desk.table, desk.maps(), MULTI_CLICK_TIME);
@@ -128,8 +130,10 @@ fn same_results(desk: &Desk, records: &[Record]) -> Result<(), String> {
             reference_call(desk, &mut states[1], record),
             outcome(prepared.call(record, ORDER)),
         ];
-        let bytes = layout::encode_state(&rules.kept());
-        if found != [expected; 3] || states.iter().any(|state| *state != *bytes) {
+        let kept = prepared.kept();
+        let bytes = layout::encode_state(kept);
+        let same_states = rules.is_kept_by(kept) && states.iter().all(|state| *state == *bytes);
+        if found != [expected; 3] || !same_states {
             return Err(format!("event {at}: {found:?} and not {expected:?}"));
         }
     }
@@ -140,9 +144,9 @@ fn outcome((number, selected): (Number, Option<usize>)) -> Outcome {
     (number as u8, selected)
 }
 
-type State = [u8; STATE_BYTES];
+type StateBytes = [u8; STATE_BYTES];
 
-fn proved_call(desk: &Desk, state: &mut State, record: &Record) -> Outcome {
+fn proved_call(desk: &Desk, state: &mut StateBytes, record: &Record) -> Outcome {
     let answer = capi::match_event(
         &desk.bytes,
         &desk.maps_bytes,
@@ -155,11 +159,11 @@ fn proved_call(desk: &Desk, state: &mut State, record: &Record) -> Outcome {
 }
 
 /// The same call in plain Rust.
-fn reference_call(desk: &Desk, state: &mut State, record: &Record) -> Outcome {
+fn reference_call(desk: &Desk, state: &mut StateBytes, record: &Record) -> Outcome {
     let Some(table) = layout::decode(&desk.bytes) else {
         return outcome((Number::TableNotWhole, None));
     };
-    let Some(context) = layout::decode_state(state) else {
+    let Some(kept) = layout::decode_state(state) else {
         return outcome((Number::StateNotWhole, None));
     };
     let (keyboard, modifiers) = layout::decode_maps(&desk.maps_bytes);
@@ -167,19 +171,14 @@ fn reference_call(desk: &Desk, state: &mut State, record: &Record) -> Outcome {
         keyboard: &keyboard,
         modifiers,
     };
-    let mut matcher = BoundedMatcher::new(&table, maps, MULTI_CLICK_TIME, context);
+    let mut matcher = BoundedMatcher::new(&table, maps, MULTI_CLICK_TIME, kept);
     let answer = matcher.call(record, ORDER);
     state.copy_from_slice(&layout::encode_state(matcher.kept()));
     outcome(answer)
 }
 
 fn prepared_matcher(desk: &Desk) -> BoundedMatcher<'_> {
-    BoundedMatcher::new(
-        &desk.table,
-        desk.maps(),
-        MULTI_CLICK_TIME,
-        Context::default(),
-    )
+    BoundedMatcher::new(&desk.table, desk.maps(), MULTI_CLICK_TIME, State::default())
 }
 
 /// The least time of an event of the stream, in nanoseconds. A run gives its own time.
@@ -199,7 +198,7 @@ fn least(run: impl Fn() -> Duration) -> Duration {
 fn on_bytes(
     desk: &Desk,
     records: &[Record],
-    call: impl Fn(&Desk, &mut State, &Record) -> Outcome,
+    call: impl Fn(&Desk, &mut StateBytes, &Record) -> Outcome,
 ) -> Duration {
     let mut state = [0; STATE_BYTES];
     let begun = Instant::now();

@@ -64,6 +64,9 @@ pub struct Counts {
     pub matched: Numbers,
     /// Of these, calls with a table that has a name.
     pub matched_with_names: u64,
+    /// Of all, calls that heard a motion of a run: directly after another in the history, or with
+    /// another directly after it.
+    pub matched_in_runs: u64,
     pub selections: u64,
     /// Of these, of a production that has a name.
     pub selections_with_names: u64,
@@ -71,6 +74,8 @@ pub struct Counts {
     pub whole_damaged_tables: u64,
     pub damaged_states: u64,
     pub whole_damaged_states: u64,
+    /// Of these, states that keep events with no context open.
+    pub closed_damaged_states: u64,
 }
 
 impl AddAssign<&Counts> for Counts {
@@ -83,12 +88,14 @@ impl AddAssign<&Counts> for Counts {
         self.asked += &other.asked;
         self.matched += &other.matched;
         self.matched_with_names += other.matched_with_names;
+        self.matched_in_runs += other.matched_in_runs;
         self.selections += other.selections;
         self.selections_with_names += other.selections_with_names;
         self.damaged_tables += other.damaged_tables;
         self.whole_damaged_tables += other.whole_damaged_tables;
         self.damaged_states += other.damaged_states;
         self.whole_damaged_states += other.whole_damaged_states;
+        self.closed_damaged_states += other.closed_damaged_states;
     }
 }
 
@@ -105,12 +112,15 @@ impl Counts {
             && self.texts_with_names >= 300_000
             && self.merged.total() >= 20_000
             && self.written.total() >= 20_000
+            && self.matched.total() >= 3_000_000
             && self.matched_with_names >= 3_000_000
+            && 3 * self.matched_in_runs >= self.matched.total()
             && self.selections >= 500_000
             && self.selections_with_names >= 300_000
             && damaged >= 100_000
             && self.whole_damaged_tables >= 10_000
             && self.whole_damaged_states >= 10_000
+            && self.closed_damaged_states >= 5_000
     }
 }
 
@@ -124,6 +134,7 @@ impl fmt::Display for Counts {
         writeln!(out, "questions       {}", self.asked)?;
         writeln!(out, "matcher calls   {}", self.matched)?;
         writeln!(out, "  with names    {}", self.matched_with_names)?;
+        writeln!(out, "  in runs       {}", self.matched_in_runs)?;
         writeln!(out, "  selections    {}", self.selections)?;
         writeln!(out, "    with names  {}", self.selections_with_names)?;
         writeln!(
@@ -133,8 +144,8 @@ impl fmt::Display for Counts {
         )?;
         write!(
             out,
-            "damaged states  {}, still whole {}",
-            self.damaged_states, self.whole_damaged_states
+            "damaged states  {}, still whole {}, of these with no context open {}",
+            self.damaged_states, self.whole_damaged_states, self.closed_damaged_states
         )
     }
 }

@@ -6,6 +6,7 @@ use glykorant_reference::calls::Texts;
 use glykorant_reference::generate::events;
 use glykorant_reference::layout::sections::*;
 use glykorant_reference::layout::{Section, Used, STATE_BYTES, TABLE_BYTES};
+use glykorant_reference::names::{BUTTON_PRESS, BUTTON_RELEASE, ENTER_NOTIFY, MOTION_NOTIFY};
 use glykorant_reference::Table;
 
 /// Values at the ends of ranges.
@@ -68,6 +69,7 @@ impl Comparison {
         for call in list.calls.iter().take(length) {
             self.call(given, &keys, &mut running, call)?;
         }
+        self.count_runs(&running);
         Ok(())
     }
 
@@ -157,24 +159,52 @@ impl Comparison {
 
     /// Changes a few bytes of a state's, mostly used ones.
     pub fn damage_state(&mut self, bytes: &mut [u8]) {
-        let kept = usize::from(bytes[0]);
         for _ in 0..self.random.range(1, 2) {
-            match self.random.below(10) {
+            let kept = usize::from(bytes[0]);
+            match self.random.below(16) {
                 0..=1 => {
                     let word = self.random.below(4);
                     self.change_word(bytes, word);
                 }
                 2 => self.flip(&mut bytes[..STATE_BYTES]),
                 // One event fewer or more, with all that goes with it.
-                3 if kept > 0 => forget_last(bytes, kept),
+                3 if (1..25).contains(&kept) => forget_last(bytes, kept),
                 4 if (1..24).contains(&kept) => repeat_last(bytes, kept),
-                5..=6 if kept > 0 => {
+                5..=6 if (1..25).contains(&kept) => {
                     // A byte of an event's code, detail or state.
                     let at = 8 + 8 * self.random.below(kept) + self.random.below(4);
                     bytes[at] = *self.random.pick(&SLOT_EDGES);
                 }
+                7..=10 if (1..25).contains(&kept) => self.damage_open(bytes, kept),
                 _ => self.flip(&mut bytes[..(8 + 8 * kept).min(STATE_BYTES)]),
             }
+        }
+    }
+
+    /// Changes whether a context is open, or what that asks of the rest.
+    fn damage_open(&mut self, bytes: &mut [u8], kept: usize) {
+        match self.random.below(8) {
+            // No context is open, and all that goes with it.
+            0..=2 => {
+                bytes[2] = 0;
+                bytes[4] = 0;
+                bytes[8 * kept] = MOTION_NOTIFY;
+            }
+            // All that goes with it but one thing: what is selected, the last event.
+            3 => {
+                bytes[2] = self.random.range(1, kept) as u8;
+                bytes[4] = 0;
+                bytes[8 * kept] = MOTION_NOTIFY;
+            }
+            4 => {
+                bytes[2] = 0;
+                bytes[4] = 0;
+                bytes[8 * kept] = *self
+                    .random
+                    .pick(&[BUTTON_PRESS, BUTTON_RELEASE, ENTER_NOTIFY]);
+            }
+            5..=6 => bytes[4] ^= 1,
+            _ => bytes[2] = self.random.below(kept + 1) as u8,
         }
     }
 }
@@ -190,12 +220,12 @@ fn slot(bytes: &[u8], [low, high]: [Section; 2], event: usize) -> u32 {
 
 fn forget_last(bytes: &mut [u8], kept: usize) {
     bytes[8 * kept..8 + 8 * kept].fill(0);
-    bytes[0] = bytes[0].wrapping_sub(1);
+    bytes[0] -= 1;
     bytes[2] = bytes[2].min(bytes[0]);
-    bytes[4] = u8::from(bytes[0] > 0);
+    bytes[4] = bytes[4].min(bytes[0]);
 }
 
 fn repeat_last(bytes: &mut [u8], kept: usize) {
     bytes.copy_within(8 * kept..8 + 8 * kept, 8 + 8 * kept);
-    bytes[0] = bytes[0].wrapping_add(1);
+    bytes[0] += 1;
 }

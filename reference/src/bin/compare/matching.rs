@@ -2,10 +2,10 @@
 
 use crate::capi;
 use crate::lent::Lent;
-use crate::tables::{answers, Compared, Comparison, Given};
+use crate::tables::{answers, ensure, Compared, Comparison, Given};
 use glykorant_reference::generate::events::{self, EventList, RecordCall};
-use glykorant_reference::layout::{self, Context, STATE_BYTES};
-use glykorant_reference::{Maps, Matcher, Number, Table};
+use glykorant_reference::layout::{self, State, STATE_BYTES};
+use glykorant_reference::{BoundedMatcher, Maps, Matcher, Number, Table};
 
 /// The maps, with what their bytes are, and a multi-click time, as the calls of a list share them.
 pub struct Keys {
@@ -38,16 +38,24 @@ impl Keys {
         }
     }
 
-    fn matcher(&self, table: &Table, context: Context) -> Matcher<'_> {
-        Matcher::resumed(table, self.maps(), self.multi_click_time, context)
+    /// A matcher over the history, from a fresh state on.
+    fn matcher(&self, table: &Table) -> Matcher<'_> {
+        Matcher::new(table, self.maps(), self.multi_click_time)
+    }
+
+    fn bounded(&self, table: &Table, state: State) -> BoundedMatcher<'_> {
+        BoundedMatcher::new(table, self.maps(), self.multi_click_time, state)
     }
 }
 
-/// A lent state, and the reference's matcher that has come to the same point: refused with 1, 18,
-/// 12 or 14, in this order, where there is none.
+/// A lent state, and the reference's matchers that have come to the same point.
 pub struct Running<'k> {
     state: Lent,
-    matcher: Result<Matcher<'k>, Number>,
+    /// The one that goes by the state: refused with 1, 18, 12 or 14, in this order, where there is
+    /// none.
+    bounded: Result<BoundedMatcher<'k>, Number>,
+    /// The one that goes by the history, where the state was fresh at first.
+    matcher: Option<Matcher<'k>>,
 }
 
 impl<'k> Running<'k> {
@@ -55,19 +63,38 @@ impl<'k> Running<'k> {
     fn new(comparison: &mut Comparison, bytes: &[u8], given: &Given, keys: &'k Keys) -> Self {
         let maps = keys.maps().check();
         let short = given.is_short() || bytes.len() < STATE_BYTES;
-        let matcher = match (maps, &given.table) {
+        let bounded = match (maps, &given.table) {
             _ if short || maps == Err(Number::ShortBuffer) => Err(Number::ShortBuffer),
             (Err(number), _) => Err(number),
             (_, Err(number)) => Err(*number),
             (_, Ok(table)) => match layout::decode_state(bytes) {
                 None => Err(Number::StateNotWhole),
-                Some(context) => Ok(keys.matcher(table, context)),
+                Some(state) => Ok(keys.bounded(table, state)),
             },
         };
         Running {
             state: Lent::new(&mut comparison.random, bytes),
-            matcher,
+            bounded,
+            matcher: None,
         }
+    }
+
+    /// What a call gives: by the state, and by the history if there is one. The two must agree, on
+    /// what is kept too.
+    fn expected(&mut self, call: &RecordCall) -> Compared<(Number, Option<usize>)> {
+        let bounded = match &mut self.bounded {
+            Ok(bounded) => bounded,
+            Err(number) => return Ok((*number, None)),
+        };
+        let expected = bounded.call(&call.record, call.order);
+        if let Some(matcher) = &mut self.matcher {
+            let by_history = matcher.call(&call.record, call.order);
+            let kept = bounded.kept();
+            ensure(by_history == expected && matcher.is_kept_by(kept), || {
+                format!("by the history {by_history:?}, by the state {expected:?} and {kept:?}")
+            })?;
+        }
+        Ok(expected)
     }
 }
 
@@ -85,9 +112,13 @@ impl Comparison {
         let mut state = Lent::any(&mut self.random, length);
         let answer = capi::fresh(state.bytes_mut());
         answers("fresh", answer, Number::Accepted, 0)?;
-        state.expect(&layout::encode_state(&Context::default()));
+        state.expect(&layout::encode_state(&State::default()));
         state.check("the state")?;
-        Ok(Running::new(self, state.bytes(), given, keys))
+        let mut running = Running::new(self, state.bytes(), given, keys);
+        if let (Ok(_), Ok(table)) = (&running.bounded, &given.table) {
+            running.matcher = Some(keys.matcher(table));
+        }
+        Ok(running)
     }
 
     /// One call. Gives what was selected.
@@ -112,14 +143,11 @@ impl Comparison {
         given.check()?;
         keys.lent.check("the maps")?;
         record.check("the record")?;
-        let (number, selected) = match &mut running.matcher {
-            Ok(matcher) => matcher.call(&call.record, call.order),
-            Err(number) => (*number, None),
-        };
+        let (number, selected) = running.expected(call)?;
         let value = selected.map_or(0, |production| production as u64 + 1);
         answers("match", answer, number, value)?;
-        if let (Number::Accepted, Ok(matcher)) = (number, &running.matcher) {
-            running.state.expect(&layout::encode_state(&matcher.kept()));
+        if let (Number::Accepted, Ok(bounded)) = (number, &running.bounded) {
+            running.state.expect(&layout::encode_state(bounded.kept()));
         }
         running.state.check("the state")?;
         self.counts.selections += u64::from(selected.is_some());
@@ -143,10 +171,18 @@ impl Comparison {
                 self.refused_over_modifier_map(given, list, &running, call)?;
             }
         }
+        self.count_runs(&running);
         Ok(())
     }
 
-    /// From a damaged copy of the state: 14, or the answers of the context that it then is.
+    /// Counts the calls that heard a run of motions, where a history tells.
+    pub fn count_runs(&mut self, running: &Running) {
+        let runs = running.matcher.iter().flat_map(Matcher::runs);
+        let in_runs: usize = runs.filter(|&run| run > 1).sum();
+        self.counts.matched_in_runs += in_runs as u64;
+    }
+
+    /// From a damaged copy of the state: 14, or the answers of the state that it then is.
     fn with_damaged_state(
         &mut self,
         given: &Given,
@@ -157,9 +193,12 @@ impl Comparison {
         let mut bytes = running.state.bytes().to_vec();
         self.damage_state(&mut bytes);
         let damaged = bytes != running.state.bytes();
-        let whole = layout::decode_state(&bytes).is_some();
+        let state = layout::decode_state(&bytes);
+        let whole = state.is_some();
+        let closed = state.is_some_and(|state| !state.open && !state.events.is_empty());
         self.counts.damaged_states += u64::from(damaged);
         self.counts.whole_damaged_states += u64::from(damaged && whole);
+        self.counts.closed_damaged_states += u64::from(damaged && closed);
         let mut running = Running::new(self, &bytes, given, keys);
         let length = if whole { 4 } else { 1 };
         for call in calls.iter().take(length) {

@@ -1,5 +1,5 @@
-//! Worked examples, run through both implementations and compared with what 01, R-1 of 02 and
-//! Appendix B say of them.
+//! Worked examples, run through both implementations and compared with what 01, R-1 and R-2 of 02
+//! and Appendix B say of them.
 
 use crate::matching::Keys;
 use crate::tables::{ensure, Compared, Comparison, LentTexts};
@@ -185,6 +185,12 @@ const PRESS: u8 = 4;
 const RELEASE: u8 = 5;
 const MOTION: u8 = 6;
 const ENTER: u8 = 7;
+/// No event type has this code.
+const NO_CODE: u8 = 35;
+
+/// The details of a motion.
+const NORMAL: u8 = 0;
+const HINT: u8 = 1;
 
 /// Code, detail, time and state of an event, and what is selected at it.
 type Step = (u8, u8, u32, u16, Option<usize>);
@@ -320,6 +326,127 @@ const LISTS: &[List] = &[
     ),
 ];
 
+/// The two presses and the two motions of the lists below, with what is selected at them. An idle
+/// motion has no bit set, a drag has Button1.
+const fn press(selected: Option<usize>) -> Step {
+    (PRESS, 1, 0, 0, selected)
+}
+
+const fn release(selected: Option<usize>) -> Step {
+    (RELEASE, 1, 0, BUTTON1, selected)
+}
+
+const fn idle(selected: Option<usize>) -> Step {
+    (MOTION, NORMAL, 0, 0, selected)
+}
+
+const fn drag(selected: Option<usize>) -> Step {
+    (MOTION, NORMAL, 0, BUTTON1, selected)
+}
+
+const DRAG: &str = "<Btn1Down>,<Btn1Motion>,<Btn1Up>:x()";
+
+/// R-2, with the readings of it.
+const MOTION_LISTS: &[List] = &[
+    // "With the action run after each."
+    (
+        "<Btn1Down>,<Btn1Motion>:x()",
+        100,
+        &[press(None), drag(Some(0)), drag(Some(0))],
+    ),
+    // "The context that the earlier one left": idle closed it.
+    (
+        DRAG,
+        100,
+        &[press(None), idle(None), drag(None), release(None)],
+    ),
+    // "A context opened at it is closed": one that starts at it, and not one that it moved.
+    (
+        "<BtnDown>,<BtnDown>,<BtnUp>:x()\n<BtnDown>,<Motion>,<BtnUp>:y()",
+        100,
+        &[
+            press(None),
+            press(None),
+            idle(None),
+            idle(None),
+            release(Some(1)),
+        ],
+    ),
+    (
+        "<Btn1Down>,<Motion>Hint:x()\n<Motion>Normal,<Key>a:y()",
+        100,
+        &[press(None), idle(None), (MOTION, HINT, 0, 0, None)],
+    ),
+    // "A mark at it, .. of the latest start, falls back by one": to the place before it.
+    (
+        "<BtnDown>,<BtnDown>,<BtnDown>:x()\n<BtnDown>,<Btn1Motion>,<BtnUp>:y()\n<Motion>,<BtnDown>:z()",
+        100,
+        &[
+            press(None),
+            press(None),
+            idle(None),
+            drag(None),
+            release(None),
+        ],
+    ),
+    // "Of the last selection."
+    (
+        "<BtnDown>,<BtnDown>,<Btn1Motion>:x()\n<BtnDown>,<Motion>,<BtnUp>:y()",
+        100,
+        &[
+            press(None),
+            press(None),
+            drag(Some(0)),
+            idle(None),
+            release(None),
+        ],
+    ),
+    // With no context open rule 3 tries every start after both marks.
+    (
+        "<BtnDown>,<BtnDown>,<BtnDown>:x()\n<BtnDown>,<Btn1Motion>,<BtnUp>:y()",
+        100,
+        &[
+            press(None),
+            press(None),
+            idle(None),
+            drag(None),
+            release(Some(1)),
+        ],
+    ),
+    // The fallen mark frees the place.
+    (
+        "<Btn1Down>,<Btn1Motion>:x()\n<Motion>:y()",
+        100,
+        &[press(None), drag(Some(0)), idle(Some(1)), drag(Some(1))],
+    ),
+    // "In the history": dropped and refused events do not part two motions, a heard one does.
+    (
+        DRAG,
+        100,
+        &[
+            press(None),
+            drag(None),
+            (ENTER, 0, 0, 0, None),
+            drag(None),
+            (NO_CODE, 0, 0, 0, None),
+            drag(None),
+            release(Some(0)),
+        ],
+    ),
+    (
+        "<Motion>,<Key>,<Motion>:x()\n<Motion>,<Motion>:y()",
+        100,
+        &[
+            idle(None),
+            drag(None),
+            (MOTION, HINT, 0, 0, None),
+            (KEY, KEYCODE, 0, 0, None),
+            idle(Some(0)),
+            drag(Some(0)),
+        ],
+    ),
+];
+
 /// A text, the modifier map with one keycode in a row, and a list of calls. The keyboard has also
 /// Meta's keys.
 type NamedList = (&'static str, [u8; 8], &'static [Step]);
@@ -424,7 +551,7 @@ pub fn run(comparison: &mut Comparison) -> Compared<()> {
     for text in OF_01.iter().chain(OF_02).chain(OF_APPENDIX_B) {
         run_text(comparison, text).map_err(|message| format!("{:?}: {message}", text.0))?;
     }
-    for (text, time, steps) in LISTS {
+    for (text, time, steps) in LISTS.iter().chain(MOTION_LISTS) {
         run_list(comparison, text, *time, [0; 8], steps)
             .map_err(|message| format!("{text:?}: {message}"))?;
     }
@@ -432,7 +559,19 @@ pub fn run(comparison: &mut Comparison) -> Compared<()> {
         run_list(comparison, text, 100, *modifier_map, steps)
             .map_err(|message| format!("{text:?}: {message}"))?;
     }
+    drag_of_forty(comparison)?;
     events_in_a_production(comparison)
+}
+
+/// "A drag sends forty motion events."
+fn drag_of_forty(comparison: &mut Comparison) -> Compared<()> {
+    let steps = [
+        vec![press(None)],
+        vec![drag(None); 40],
+        vec![release(Some(0))],
+    ]
+    .concat();
+    run_list(comparison, DRAG, 100, [0; 8], &steps)
 }
 
 fn run_text(comparison: &mut Comparison, vector: &Text) -> Compared<()> {

@@ -1,4 +1,4 @@
--- `matcher::moves::shifted` meets its contract.
+-- `acting::moves::shifted` meets its contract.
 use Prim.Native.Nat.{ℕ, _-_, _≤_, _<_}
 use native.Mathlib.Omega.{arith}
 use mathlib.Core.Path.{_≡_, sym, ap, _∙_}
@@ -7,9 +7,9 @@ use lib.ListN.{length, take, drop}
 use lib.Seq.{length-slice}
 use Rattle.states.specs.State.{slotsOf, inSlots}
 use Rattle.states.proofs.SlotLaws.{length-slots, in-slot, length-in}
-use Rattle.matcher.proofs.MoveLaws.{no-slots, shift-none, shift-more}
-use Rattle.matcher.proofs.moves.shifted.Statement.{statement}
-use Rattle.matcher.proofs.moves.shifted.Tie as tie
+use Rattle.acting.proofs.MoveLaws.{no-slots, shift-none, shift-more}
+use Rattle.acting.proofs.moves.shifted.Statement.{statement}
+use Rattle.acting.proofs.moves.shifted.Tie as tie
 
 abbrev Inv-loop : tie.InvT-loop
 Inv-loop events from to slots₀ i₀ slots i = (from ≤ i) × (i ≤ to) × (slots ≡ inSlots (drop from (take i (slotsOf events))))
