@@ -11,7 +11,7 @@ use Rattle.model.specs.Tables.{Table}
 use Rattle.model.specs.Setting.{Setting}
 use Rattle.model.specs.Compiling.{Outcome, accepted, refused, compiled}
 use Rattle.model.specs.Demand.{MatchCall}
-use Rattle.model.specs.Examples.{call, tableP, underTime}
+use Rattle.model.specs.Examples.{call, press, release, tableP, underTime}
 use Rattle.model.specs.MotionExamples.{broken}
 use Rattle.model.specs.declared.events.Event.{Event}
 use Rattle.machine.specs.Kept.{Kept, fresh, stepped}
@@ -49,12 +49,6 @@ KeptAsShown es = map (λ e. rowsOf (compiled (e .text)) (e .calls)) es ≡ map (
 
 -- ---- Events, at a time
 
-abbrev pub pressed : (button time : ℕ) → MatchCall
-pressed button time = call 4 button time 0
-
-abbrev pub released : (button time : ℕ) → MatchCall
-released button time = call 5 button time 0
-
 -- Button1 is down
 abbrev pub dragged : ℕ → MatchCall
 dragged time = call 6 0 time 256
@@ -73,7 +67,7 @@ keptExamples =
     -- the two at the head of Kept
     record {
       text = tableP;
-      calls = pressed 1 1 ∷ released 2 2 ∷ released 1 3 ∷ pressed 1 4 ∷ released 1 5 ∷ released 1 6 ∷ [];
+      calls = press 1 1 ∷ release 2 2 ∷ release 1 3 ∷ press 1 4 ∷ release 1 5 ∷ release 1 6 ∷ [];
       rows =
           row (1 ∷ []) 0 true none
           ∷ row [] 0 false none
@@ -85,7 +79,7 @@ keptExamples =
     }
     ∷ record {
       text = bytes "<BtnDown>,<BtnDown>,<BtnDown>:x()\n<BtnDown>,<Btn1Motion>,<BtnUp>:y()";
-      calls = pressed 1 1 ∷ pressed 1 2 ∷ strayed 3 ∷ dragged 4 ∷ released 1 5 ∷ [];
+      calls = press 1 1 ∷ press 1 2 ∷ strayed 3 ∷ dragged 4 ∷ release 1 5 ∷ [];
       rows =
           row (1 ∷ []) 0 true none
           ∷ row (1 ∷ 2 ∷ []) 0 true none
@@ -97,7 +91,7 @@ keptExamples =
     -- a mark at the motion that is replaced falls back by one: 4 is not used up; and with a press it is forgotten
     ∷ record {
       text = bytes "<BtnDown>,<BtnDown>,<Btn1Motion>:x()\n<BtnDown>,<Motion>,<BtnUp>:y()";
-      calls = pressed 1 1 ∷ pressed 1 2 ∷ dragged 3 ∷ strayed 4 ∷ pressed 1 5 ∷ [];
+      calls = press 1 1 ∷ press 1 2 ∷ dragged 3 ∷ strayed 4 ∷ press 1 5 ∷ [];
       rows =
           row (1 ∷ []) 0 true none
           ∷ row (1 ∷ 2 ∷ []) 0 true none
@@ -109,7 +103,7 @@ keptExamples =
     -- a context opened at the motion that is replaced is closed; a release takes no motion's place; a refused call changes nothing
     ∷ record {
       text = bytes "<Motion>Normal,<Btn1Up>:x()";
-      calls = strayed 1 ∷ hinted 2 ∷ strayed 3 ∷ broken ∷ released 1 4 ∷ [];
+      calls = strayed 1 ∷ hinted 2 ∷ strayed 3 ∷ broken ∷ release 1 4 ∷ [];
       rows =
           row (1 ∷ []) 0 true none
           ∷ row (2 ∷ []) 0 false none

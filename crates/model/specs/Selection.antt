@@ -72,6 +72,7 @@ module _ {A : Type 0} where
   endsIn test (x ∷ []) = test x
   endsIn test (x ∷ y ∷ ys) = endsIn test (y ∷ ys)
 
+  -- all but the last
   abbrev pub withoutLast : List A → List A
   withoutLast xs = take (pred (length xs)) xs
 
@@ -107,10 +108,12 @@ unfoldable pub smallest : (ℕ → Bool) → ℕ → ℕ → Option ℕ
 smallest test n zero = none
 smallest test n (suc many) = cond (test n) (some n) (smallest test (suc n) many)
 
+-- "the latest start there was", where a context from s is open, or none
 abbrev pub latestOf : Option ℕ → ℕ → ℕ
 latestOf none latest = latest
 latestOf (some s) latest = s
 
+-- "the last event at which anything was selected", where t is the place of the event that is judged
 abbrev pub lastOf : ℕ → Option ℕ → ℕ → ℕ
 lastOf t none last = last
 lastOf t (some p) last = t
@@ -147,6 +150,7 @@ module _ {E : Type 0} (R : Reading E) where
   selectedAt history none = none
   selectedAt history (some s) = R .chosen (stretch history s)
 
+  -- what stands after the event, where `a` stood before, this context is open and this is selected
   abbrev pub stands : List E → Standing E → Option ℕ → Option ℕ → Standing E
   stands history a context selected =
       record {
@@ -181,6 +185,7 @@ module _ {E : Type 0} (R : Reading E) where
 
 -- ---- "A selection's events are the stretch it was made on"
 
+-- the numbers from the start of a context on
 abbrev pub heardFrom : List ℕ → Option ℕ → List ℕ
 heardFrom numbers none = []
 heardFrom numbers (some s) = stretch numbers s
