@@ -16,6 +16,7 @@ use Rattle.machine.proofs.Every.{Every, every-snoc, every-drop, every-t
 use Rattle.machine.proofs.Falls.{falls-at, falls-below, falls-within, closed-below}
 use Rattle.machine.proofs.Lists.{length-snoc, length-without, drop-without, ends-some}
 use Rattle.machine.proofs.Tests.{and-right}
+use Rattle.machine.proofs.Track.{hears-append}
 
 module _ {A : Type 0} where
   begins-snoc : (xs : List A) (x : A) → 0 < length xs → beginning (xs ++ (x ∷ [])) ≡ beginning xs
@@ -242,11 +243,6 @@ module _ {E : Type 0} (R : Reading E) where
 
   -- ---- Two selections
 
-  hears-append : (a : Standing E) (xs ys : List E) → hearsAll R a (xs ++ ys) ≡ hearsAll R (hearsAll R a xs) ys
-  unfolding hearsAll
-  hears-append a [] ys = refl
-  hears-append a (x ∷ xs) ys = hears-append (hears R a x) xs ys
-
   past-selection : (a : Standing E) → Sound a → Marked a → given (a .selected) ≡ true → Past (contextEvents a) (a .number) a
   past-selection a s m g =
       record {
@@ -280,7 +276,7 @@ module _ {E : Type 0} (R : Reading E) where
   stands-later xs i j l =
       let parts : take j xs ≡ take i xs ++ drop i (take j xs)
       = sym (take-append-drop i (take j xs)) ∙ ap (λ ys. ys ++ drop i (take j xs)) (take-take i j xs l) in
-      ap (hearsAll R atFirst) parts ∙ hears-append atFirst (take i xs) (drop i (take j xs))
+      ap (hearsAll R atFirst) parts ∙ hears-append R atFirst (take i xs) (drop i (take j xs))
 
   pub apart :
       (xs : List E) (i j : ℕ) → i ≤ j → given (standing R (take i xs) .selected) ≡ true

@@ -489,10 +489,10 @@ module _ {E : Type 0} (R : Reading E) where
   kept-snoc k [] e = refl
   kept-snoc k (x ∷ xs) e = kept-snoc (kept R k x) xs e
 
-  pub hears-snoc : (a : Standing E) (xs : List E) (e : E) → hearsAll R a (xs ++ (e ∷ [])) ≡ hears R (hearsAll R a xs) e
+  pub hears-append : (a : Standing E) (xs ys : List E) → hearsAll R a (xs ++ ys) ≡ hearsAll R (hearsAll R a xs) ys
   unfolding hearsAll
-  hears-snoc a [] e = refl
-  hears-snoc a (x ∷ xs) e = hears-snoc (hears R a x) xs e
+  hears-append a [] ys = refl
+  hears-append a (x ∷ xs) ys = hears-append (hears R a x) xs ys
 
   module _ (closed : Closed) where
     step-ok : (a : Standing E) (k : Kept E) (x : E) → Tracks a k → Agreed (hears R a x) (kept R k x) (choice R k x)
@@ -512,6 +512,7 @@ module _ {E : Type 0} (R : Reading E) where
     -- at every heard event the matcher selects what the rules name
     pub choice-snoc :
         (xs : List E) (e : E) → choice R (keptAll R fresh xs) e ≡ hearsAll R atFirst (xs ++ (e ∷ [])) .selected
+    unfolding hearsAll
     choice-snoc xs e =
         step-ok (hearsAll R atFirst xs) (keptAll R fresh xs) e (tracks-all atFirst fresh xs tracks-fresh) .agrees
-        ∙ ap (λ a. a .selected) (sym (hears-snoc atFirst xs e))
+        ∙ ap (λ a. a .selected) (sym (hears-append atFirst xs (e ∷ [])))
