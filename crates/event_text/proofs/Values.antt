@@ -1,11 +1,12 @@
 -- What a detail's value is written as, by the event's code.
-use Prim.Native.Nat.{ℕ, _+_, _≤_, _<_}
+use Prim.Native.Nat.{ℕ, _≤_, _<_}
 use native.Mathlib.Omega.{arith}
 use mathlib.Core.Path.{_≡_, ap}
 use mathlib.Core.List.{List, _∷_, _++_, append-assoc}
 use borrow.Author.Tests.{le-leb, lt-leb, ne-eqb}
 use Rattle.model.specs.Lists.{bytes}
 use Rattle.model.specs.Canonical.{valueText, hexadecimal}
+use Rattle.names.specs.Places.{buttonsAt, motionsAt, modesAt, requestsAt}
 use Rattle.event_text.specs.Named.{placeOrNumber}
 use Rattle.event_text.proofs.Named.{button-name, motion-name, mode-name, request-name}
 
@@ -14,18 +15,18 @@ module _ (code v : ℕ) where
   unfolding valueText
   value-key h k = rw (le-leb 2 code h, le-leb code 3 k)
 
-  pub value-button : 3 < code → code ≤ 5 → placeOrNumber v 1 5 136 ≡ valueText code v
+  pub value-button : 3 < code → code ≤ 5 → placeOrNumber v 1 5 buttonsAt ≡ valueText code v
   unfolding valueText
   value-button h k =
       let l : 2 ≤ code = omega arith in
       let m : 4 ≤ code = omega arith in
       rw (le-leb 2 code l, lt-leb code 3 h, le-leb 4 code m, le-leb code 5 k, button-name v)
 
-  pub value-motion : code ≡ 6 → placeOrNumber v 0 2 141 ≡ valueText code v
+  pub value-motion : code ≡ 6 → placeOrNumber v 0 2 motionsAt ≡ valueText code v
   unfolding valueText
   value-motion e = rw (e, motion-name v)
 
-  pub value-mode : 5 < code → (code ≡ 6 → ⊥) → code ≤ 10 → placeOrNumber v 0 4 143 ≡ valueText code v
+  pub value-mode : 5 < code → (code ≡ 6 → ⊥) → code ≤ 10 → placeOrNumber v 0 4 modesAt ≡ valueText code v
   unfolding valueText
   value-mode h n k =
       let l : 2 ≤ code = omega arith in
@@ -34,7 +35,7 @@ module _ (code v : ℕ) where
       let p : 7 ≤ code = omega arith in
       rw (le-leb 2 code l, lt-leb code 3 o, le-leb 4 code m, lt-leb code 5 h, ne-eqb code 6 n, le-leb 7 code p, le-leb code 10 k, mode-name v)
 
-  pub value-request : 10 < code → placeOrNumber v 0 3 147 ≡ valueText code v
+  pub value-request : 10 < code → placeOrNumber v 0 3 requestsAt ≡ valueText code v
   unfolding valueText
   value-request h =
       let l : 2 ≤ code = omega arith in

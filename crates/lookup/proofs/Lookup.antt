@@ -8,7 +8,8 @@ use mathlib.Core.List.{List, [], _∷_}
 use Rattle.model.specs.Lists.{same, bytes}
 use Rattle.model.specs.Names.{Entry, firstMeaning}
 use Rattle.names.specs.Table.{nameRow, namesIn, meaningsIn}
-use Rattle.lookup.specs.Rule.{valuesFrom, Holds}
+use Rattle.words.specs.Runs.{run}
+use Rattle.lookup.specs.Rule.{Holds}
 use Rattle.lookup.specs.Find.{findFrom, meaningOf}
 use Rattle.lookup.specs.declared.find.Found.{Found}
 
@@ -46,7 +47,7 @@ found-within (suc n) i w k e = go (same w (nameRow i)) refl (found-within n (suc
 module _ {A : Type 0} (mean : ℕ → A) (other : A) (w : List ℕ) where
   -- so looking a word up in them is the rule's own lookup
   pub found-named : (n i : ℕ) (es : List (Entry A)) → Holds mean n i es → meaningOf mean other (findFrom n i w) ≡ firstMeaning es other w
-  unfolding findFrom
+  unfolding findFrom run
   found-named zero i [] h = refl
   found-named zero i (e ∷ es) h =
       let p = h .names in
@@ -58,9 +59,9 @@ module _ {A : Type 0} (mean : ℕ → A) (other : A) (w : List ℕ) where
       let p = h .names in
       let q = h .meanings in
       let p₀ : nameRow i ≡ bytes (e .name) = cc in
-      let p₁ : valuesFrom n nameRow (suc i) ≡ namesIn es = cc in
+      let p₁ : run nameRow (suc i) n ≡ namesIn es = cc in
       let q₀ : mean i ≡ e .meaning = cc in
-      let q₁ : valuesFrom n mean (suc i) ≡ meaningsIn es = cc in
+      let q₁ : run mean (suc i) n ≡ meaningsIn es = cc in
       go (same w (nameRow i)) refl p₀ q₀ (found-named n (suc i) es (record { names = p₁; meanings = q₁ }))
     where
       go : (b : Bool) → same w (nameRow i) ≡ b → nameRow i ≡ bytes (e .name) → mean i ≡ e .meaning

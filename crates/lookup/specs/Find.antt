@@ -9,8 +9,10 @@ use Rattle.model.specs.Bytes.{byteAt, isDigit}
 use Rattle.model.specs.Details.{smallNumber}
 use Rattle.model.specs.declared.events.Directive.{Directive}
 use Rattle.model.specs.declared.names.DetailRead.{DetailRead}
+use Rattle.model.specs.declared.names.ModifierName.{ModifierName}
 use Rattle.model.specs.declared.names.TypeName.{TypeName}
-use Rattle.names.specs.Table.{nameRow, detailValues, typeRow, directiveRow}
+use Rattle.names.specs.Places.{directivesAt, modifierNamesAt, typesAt}
+use Rattle.names.specs.Table.{nameRow, modifierRow, typeRow, detailValues, directiveRow}
 use Rattle.lookup.specs.declared.find.Found.{Found}
 use Rattle.lookup.specs.declared.FirstLine.{FirstLine}
 
@@ -25,15 +27,18 @@ module _ {A : Type 0} where
   meaningOf mean other (Found.At i) = mean i
   meaningOf mean other Found.Nothing = other
 
--- what a place of the whole table stands for, in each group that does not start it
+-- what a place of the whole table stands for, in each kind; the details come first
+abbrev pub modifierMeaning : ℕ → ModifierName
+modifierMeaning i = modifierRow (i - modifierNamesAt)
+
 abbrev pub typeMeaning : ℕ → TypeName
-typeMeaning i = TypeName.Known (typeRow (i - 24))
+typeMeaning i = TypeName.Known (typeRow (i - typesAt))
 
 abbrev pub detailMeaning : ℕ → DetailRead
-detailMeaning i = DetailRead.Value (getD detailValues (i - 111) 0)
+detailMeaning i = DetailRead.Value (getD detailValues i 0)
 
 abbrev pub directiveMeaning : ℕ → Option Directive
-directiveMeaning i = some (directiveRow (i - 150))
+directiveMeaning i = some (directiveRow (i - directivesAt))
 
 -- a detail's name in a range
 unfoldable pub detailFound : ℕ → ℕ → List ℕ → DetailRead

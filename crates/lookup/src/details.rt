@@ -2,22 +2,24 @@
 use crate::find;
 use crate::find::Found;
 use model::names::DetailRead;
+use names::meanings;
 use names::table;
 use numerals::number;
 ghost use mathlib.Core.Path.{_≡_};
 ghost use Prim.Native.Nat.{_≤_};
 ghost use Rattle.model.specs.Details.{keyDetail};
+ghost use Rattle.names.specs.Places.{directivesAt};
 ghost use Rattle.lookup.specs.Find.{detailFound, foundOrNumber};
 
 const KEYSYM_LIMIT: u64 = 0x1fffffff;
 
-// The value of a detail's name in a range of the table.
+// The value of a detail's name in a range of the table, in which the details come first.
 pub fn detail_in(w: &[u8], from: usize, to: usize) -> DetailRead
-    requires { ⌜ (111 ≤ from) × (from ≤ to) × (to ≤ 150) ⌝ }
+    requires { ⌜ (from ≤ to) × (to ≤ directivesAt) ⌝ }
     ensures { λ r. ⌜ r ≡ detailFound from to (now (w .entry)) ⌝ }
 {
     match find::find(w, from, to) {
-        Found::At(i) => DetailRead::Value(table::detail_value(i - table::KEYSYMS)),
+        Found::At(i) => DetailRead::Value(meanings::detail_value(i)),
         Found::Nothing => DetailRead::Unknown,
     }
 }
@@ -44,7 +46,7 @@ pub fn key_detail(w: &[u8]) -> DetailRead
 
 // A small number, or a name in a range of the table.
 pub fn name_or_number(w: &[u8], from: usize, to: usize) -> DetailRead
-    requires { ⌜ (111 ≤ from) × (from ≤ to) × (to ≤ 150) ⌝ }
+    requires { ⌜ (from ≤ to) × (to ≤ directivesAt) ⌝ }
     ensures { λ r. ⌜ r ≡ foundOrNumber from to (now (w .entry)) ⌝ }
 {
     if number::in_range(b'0', number::byte_at(w, 0), b'9') {

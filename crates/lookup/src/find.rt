@@ -1,10 +1,14 @@
 // Lookup of a word in a range of the table of names.
 use names::table;
-use numerals::number::byte_at;
+use names::table::Spelling;
 ghost use mathlib.Core.Path.{_≡_};
-ghost use Prim.Native.Nat.{_-_, _≤_, _<_};
-ghost use Rattle.model.specs.Lists.{same};
-ghost use Rattle.names.specs.Table.{nameRow, markOf};
+ghost use mathlib.Core.Bool.{_&&_};
+ghost use Prim.Native.Nat.{_+_, _-_, _≤_, _<_};
+ghost use lib.Dec.{eqb};
+ghost use lib.ListN.{length};
+ghost use Rattle.model.specs.Lists.{part, same};
+ghost use Rattle.names.specs.Places.{nameTotal};
+ghost use Rattle.names.specs.Table.{nameRow, packed, spellingOf, longestName};
 ghost use Rattle.lookup.specs.Find.{findFrom};
 
 // The place of a name in the table.
@@ -13,75 +17,64 @@ pub enum Found {
     Nothing,
 }
 
-// Whether the word is the name at a place. Lengths are compared first.
+// Up to eight bytes of a word as one number, the first one lowest.
+fn number_of(w: &[u8], from: usize, to: usize) -> u64
+    requires { ⌜ (from ≤ to) × (to ≤ length (now w)) × (to ≤ from + 8) ⌝ }
+    ensures { λ r. ⌜ r ≡ packed (part (now (w .entry)) from to) ⌝ }
+{
+    let mut v: u64 = 0;
+    let mut i = to;
+    while from < i {
+        i -= 1;
+        v = v * 256 + w[i] as u64;
+    }
+    v
+}
+
+// The word as a name is spelled in the table.
+fn spelling_of(w: &[u8]) -> Spelling
+    requires { ⌜ length (now w) ≤ longestName ⌝ }
+    ensures { λ r. ⌜ r ≡ spellingOf (now (w .entry)) ⌝ }
+{
+    let len = w.len();
+    if len <= 8 {
+        let low = number_of(w, 0, len);
+        return Spelling(len, low, 0);
+    }
+    let low = number_of(w, 0, 8);
+    let high = number_of(w, 8, len);
+    Spelling(len, low, high)
+}
+
+fn is_same(a: Spelling, b: Spelling) -> bool
+    ensures { λ r. ⌜ r ≡ (eqb (a .0) (b .0) && (eqb (a .1) (b .1) && eqb (a .2) (b .2))) ⌝ }
+{
+    (a.0 == b.0) & ((a.1 == b.1) & (a.2 == b.2))
+}
+
+// Whether the word is the name at a place.
 pub fn is_name(w: &[u8], place: usize) -> bool
-    requires { ⌜ place < 155 ⌝ }
+    requires { ⌜ place < nameTotal ⌝ }
     ensures { λ r. ⌜ r ≡ same (now (w .entry)) (nameRow place) ⌝ }
 {
-    let len = table::name_length(place);
-    if w.len() != len {
+    if table::LONGEST < w.len() {
         return false;
     }
-    let start = table::name_start(place);
-    let text = table::name_text();
-    let mut i = 0;
-    while i < w.len() {
-        if w[i] != text[start + i] {
-            return false;
-        }
-        i += 1;
-    }
-    true
-}
-
-// The last of n places, 0 where there is none.
-fn last_of(n: usize) -> usize
-    ensures { λ r. ⌜ r ≡ n - 1 ⌝ }
-{
-    if n == 0 {
-        return 0;
-    }
-    n - 1
-}
-
-fn wide(b: u8) -> u32
-    ensures { λ r. ⌜ (r ≡ b) × (r < 256) ⌝ }
-{
-    b as u32
-}
-
-// The mark of a word.
-fn mark_of(w: &[u8]) -> u32
-    ensures { λ r. ⌜ r ≡ markOf (now (w .entry)) ⌝ }
-{
-    let len = (w.len() % 256) as u8;
-    wide(byte_at(w, 0))
-        + 256 * wide(byte_at(w, 3))
-        + 65536 * wide(byte_at(w, last_of(w.len())))
-        + 16777216 * wide(len)
-}
-
-// The same, given the marks of the name and of the word: most names are ruled out by theirs.
-fn is_marked_name(w: &[u8], place: usize, own: u32, mark: u32) -> bool
-    requires { ⌜ (place < 155) × (own ≡ markOf (nameRow place)) × (mark ≡ markOf (now w)) ⌝ }
-    ensures { λ r. ⌜ r ≡ same (now (w .entry)) (nameRow place) ⌝ }
-{
-    if own != mark {
-        return false;
-    }
-    is_name(w, place)
+    is_same(spelling_of(w), table::spelling_at(place))
 }
 
 // The first place in a range whose name is the word.
 pub fn find(w: &[u8], from: usize, to: usize) -> Found
-    requires { ⌜ (from ≤ to) × (to ≤ 155) ⌝ }
+    requires { ⌜ (from ≤ to) × (to ≤ nameTotal) ⌝ }
     ensures { λ r. ⌜ r ≡ findFrom (to - from) from (now (w .entry)) ⌝ }
 {
-    let marks = table::name_marks();
-    let mark = mark_of(w);
+    if table::LONGEST < w.len() {
+        return Found::Nothing;
+    }
+    let own = spelling_of(w);
     let mut i = from;
     while i < to {
-        if is_marked_name(w, i, marks[i], mark) {
+        if is_same(own, table::spelling_at(i)) {
             return Found::At(i);
         }
         i += 1;

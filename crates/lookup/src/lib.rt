@@ -1,5 +1,5 @@
-// What a word stands for: the names of modifiers, event types, details and directives, and the numbers of details. The table
-// of names is behind `find`, so that another order of it changes nothing here.
+// What a word stands for: the names of modifiers, event types, details and directives, and the numbers of details. A modifier and
+// an event type are compared with the names of their own group alone.
 pub mod details;
 pub mod find;
 
@@ -8,6 +8,7 @@ use model::events::Directive;
 use model::names::DetailRead;
 use model::names::ModifierName;
 use model::names::TypeName;
+use names::groups;
 use names::meanings;
 use names::table;
 use numerals::number;
@@ -28,8 +29,13 @@ pub enum FirstLine {
 pub fn modifier_named(w: &[u8]) -> ModifierName
     ensures { λ r. ⌜ r ≡ modifierNamed (now (w .entry)) ⌝ }
 {
-    match find::find(w, table::MODIFIERS, table::TYPES) {
-        Found::At(i) => meanings::modifier_at(i),
+    let group = groups::modifier_group(w.len(), number::byte_at(w, 0));
+    match find::find(
+        w,
+        table::MODIFIERS + group.from,
+        table::MODIFIERS + group.to,
+    ) {
+        Found::At(i) => meanings::modifier_at(i - table::MODIFIERS),
         Found::Nothing => ModifierName::Unknown,
     }
 }
@@ -37,7 +43,8 @@ pub fn modifier_named(w: &[u8]) -> ModifierName
 pub fn type_named(w: &[u8]) -> TypeName
     ensures { λ r. ⌜ r ≡ typeNamed (now (w .entry)) ⌝ }
 {
-    match find::find(w, table::TYPES, table::KEYSYMS) {
+    let group = groups::type_group(w.len(), number::byte_at(w, 0));
+    match find::find(w, table::TYPES + group.from, table::TYPES + group.to) {
         Found::At(i) => TypeName::Known(meanings::type_at(i - table::TYPES)),
         Found::Nothing => TypeName::Unknown,
     }

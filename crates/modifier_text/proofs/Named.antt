@@ -1,8 +1,6 @@
--- Where the long names of the modifiers stand in the table of names, how long they are, by computed tests, and the order of writing.
+-- How long the names of the modifier bits are, by a computed test, and the order of writing.
 use Prim.Native.Nat.{ℕ, _≤_, _<_}
-use native.Mathlib.Nat.{zero-add}
 use mathlib.Core.Path.{_≡_, refl}
-use mathlib.Core.List.{[]}
 use mathlib.Core.Bool.{true}
 use lib.Dec.{leb}
 use lib.ListN.{length}
@@ -10,21 +8,12 @@ use borrow.Author.Tests.{leb-true}
 use Rattle.words.specs.Runs.{run}
 use Rattle.model.specs.Names.{modifierEntries}
 use Rattle.model.specs.Canonical.{bitName, writingOrder}
-use Rattle.names.specs.Table.{nameRow, allNames}
-use Rattle.writing.proofs.Joined.{run-at}
 use Rattle.modifiers.proofs.Below.{every, every-at}
-use Rattle.modifier_text.specs.Places.{orderAt, modifierPlace}
+use Rattle.modifier_text.specs.Places.{orderAt}
 
 pub order-run : writingOrder ≡ run orderAt 0 13
 unfolding run orderAt
 order-run = refl
-
-bit-names : run bitName 0 13 ≡ run (λ k. nameRow (modifierPlace k)) 0 13
-unfolding run bitName modifierEntries nameRow allNames modifierPlace
-bit-names = refl
-
-pub bit-name : (k : ℕ) → k < 13 → bitName k ≡ nameRow (modifierPlace k)
-bit-name k h = rw zero-add at (run-at bitName (λ k. nameRow (modifierPlace k)) 0 13 [] bit-names k h)
 
 short-names : every 13 (λ k. leb (length (bitName k)) 7) ≡ true
 unfolding every bitName modifierEntries

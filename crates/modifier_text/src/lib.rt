@@ -8,7 +8,7 @@ ghost use Prim.Native.Nat.{_+_, _≤_, _<_};
 ghost use Rattle.model.specs.Named.{keptAsWritten};
 ghost use Rattle.model.specs.Canonical.{asksEvery, writesBang, bitText, isWrittenBit, listText, modifiersText};
 ghost use Rattle.writing.specs.Overlay.{Put, separator};
-ghost use Rattle.modifier_text.specs.Places.{orderAt, modifierPlace, isAsked, isBrief, hasPlace, placeText};
+ghost use Rattle.modifier_text.specs.Places.{orderAt, isAsked, isBrief, hasPlace, placeText};
 
 // Whether the event keeps `!` or names, and so its plain names as they were written.
 fn kept_as_written(e: KeptEvent) -> bool
@@ -75,20 +75,6 @@ fn order_at(j: u32) -> u32
     j
 }
 
-// The place of a bit's long name in the table of names.
-fn modifier_place(k: u32) -> usize
-    requires { ⌜ k < 13 ⌝ }
-    ensures { λ r. ⌜ (r ≡ modifierPlace k) × (r < 155) ⌝ }
-{
-    if k == 2 {
-        return 0;
-    }
-    if k < 2 {
-        return 2 * (k as usize) + 2;
-    }
-    k as usize + 3
-}
-
 // Whether a bit is written. After a `!` that says that every other bit is clear, only those asked set are.
 fn is_written(e: KeptEvent, brief: bool, k: u32) -> bool
     requires { ⌜ (k < 13) × (brief ≡ isBrief e) ⌝ }
@@ -108,10 +94,10 @@ fn put_bit(out: &mut [u8], at: usize, e: KeptEvent, k: u32) -> usize
 {
     let set = e.set;
     if modifiers::bit(k, set) {
-        return bytes::put_name(out, at, modifier_place(k));
+        return bytes::put_name(out, at, names::places::bit_place(k));
     }
     let next = bytes::put_byte(out, at, b'~');
-    bytes::put_name(out, next, modifier_place(k))
+    bytes::put_name(out, next, names::places::bit_place(k))
 }
 
 // The texts of a list have places: 0..12 are those of the bits, in the order of writing, 13..28 those of the names' forms.

@@ -1,6 +1,6 @@
 -- The forms of an event's names by number, in the order of writing: 0..7 are those of Meta, Alt, Hyper and Super, 8..15 those of
 -- the four keysyms; of one name the set form first, and the odd ones have `~`.
-use Prim.Native.Nat.{ℕ, _+_, _-_, _*_, _/_, _%_}
+use Prim.Native.Nat.{ℕ, _-_, _/_, _%_}
 use mathlib.Core.Bool.{Bool, cond}
 use mathlib.Core.List.{List, [], _++_}
 use lib.Dec.{eqb, ltb}
@@ -14,10 +14,6 @@ use Rattle.model.specs.declared.events.KeptEvent.{KeptEvent}
 unfoldable pub keysymAt : Keysyms → ℕ → ℕ
 keysymAt keysyms i =
     cond (eqb i 0) (keysyms .first) (cond (eqb i 1) (keysyms .second) (cond (eqb i 2) (keysyms .third) (keysyms .fourth)))
-
--- the place of a long name in the table of names
-unfoldable pub longPlace : ℕ → ℕ
-longPlace n = cond (eqb n 0) 16 (cond (eqb n 1) 22 (2 * n + 14))
 
 unfoldable pub formTilde : ℕ → Bool
 formTilde j = eqb (j % 2) 1

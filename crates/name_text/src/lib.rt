@@ -11,7 +11,7 @@ ghost use Rattle.model.specs.Lists.{bytes};
 ghost use Rattle.model.specs.Named.{formBit, markedKeysym, isListed};
 ghost use Rattle.model.specs.Canonical.{hexadecimal};
 ghost use Rattle.writing.specs.Overlay.{Put};
-ghost use Rattle.name_text.specs.Forms.{keysymAt, longPlace, formTilde, hasForm, formWord, formText};
+ghost use Rattle.name_text.specs.Forms.{keysymAt, formTilde, hasForm, formWord, formText};
 
 fn keysym_at(keysyms: Keysyms, i: u32) -> u32
     ensures { λ r. ⌜ r ≡ keysymAt keysyms i ⌝ }
@@ -67,20 +67,6 @@ pub fn has_form(e: KeptEvent, j: u32) -> bool
     is_listed(tilde, keysym_at(keysyms, j / 2 - 4))
 }
 
-// The place of the long name of Meta, Alt, Hyper or Super in the table of names.
-fn long_place(n: u32) -> usize
-    requires { ⌜ n < 4 ⌝ }
-    ensures { λ r. ⌜ (r ≡ longPlace n) × (r < 155) ⌝ }
-{
-    if n == 0 {
-        return 16;
-    }
-    if n == 1 {
-        return 22;
-    }
-    2 * (n as usize) + 14
-}
-
 fn put_keysym(out: &mut [u8], at: usize, s: u32) -> usize
     requires { ⌜ at ≤ 8800000000 ⌝ }
     ensures { λ r. ⌜ (Put (now (out .entry)) (now (out .exit)) at r (bytes "@" ++ hexadecimal (markedKeysym s))) × (r ≤ at + 11) ⌝ }
@@ -95,7 +81,7 @@ fn put_word(out: &mut [u8], at: usize, e: KeptEvent, j: u32) -> usize
     ensures { λ r. ⌜ (Put (now (out .entry)) (now (out .exit)) at r (formWord e j)) × (r ≤ at + 11) ⌝ }
 {
     if j < 8 {
-        return bytes::put_name(out, at, long_place(j / 2));
+        return bytes::put_name(out, at, names::places::long_place(j / 2));
     }
     let keysyms = e.keysyms;
     put_keysym(out, at, keysym_at(keysyms, j / 2 - 4))

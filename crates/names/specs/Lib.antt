@@ -1,1 +1,4 @@
+pub mod Places
+pub mod Groups
 pub mod Table
+pub mod Writing

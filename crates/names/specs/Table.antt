@@ -1,22 +1,24 @@
--- The table of names as the code holds it, computed from the entries of the rules: all names in one text, with the start and
--- the length of each, and the numbers that each stands for.
-use Prim.Native.Nat.{ℕ, _+_, _-_, _*_, _%_}
+-- The table of names as the code holds it, computed from the entries of the rules: at each place a name and what it stands for.
+use Prim.Native.Nat.{ℕ, _+_, _-_, _*_, _<_}
 use Prim.Native.String.{String}
 use mathlib.Core.Bool.{cond}
 use mathlib.Core.List.{List, [], _∷_, _++_, map}
 use mathlib.Core.Option.{Option, some}
 use lib.Dec.{eqb, ltb}
-use lib.ListN.{length, getD}
+use lib.ListN.{length, take, drop, getD}
 use Rattle.model.specs.Lists.{bytes}
-use Rattle.model.specs.Names.{Entry, modifierEntries, typeEntries}
+use Rattle.model.specs.Names.{Entry}
 use Rattle.model.specs.Details.{keysymEntries, buttonEntries, motionEntries, modeEntries, requestEntries}
 use Rattle.model.specs.declared.events.Detail.{Detail}
 use Rattle.model.specs.declared.events.Directive.{Directive}
 use Rattle.model.specs.declared.names.Added.{Added}
 use Rattle.model.specs.declared.names.EventType.{EventType}
-use Rattle.model.specs.declared.names.TypeName.{TypeName}
-use Rattle.model.specs.declared.names.ModifierName.{ModifierName}
 use Rattle.model.specs.declared.names.DetailRead.{DetailRead}
+use Rattle.model.specs.declared.names.ModifierName.{ModifierName}
+use Rattle.model.specs.declared.names.TypeName.{TypeName}
+use Rattle.names.specs.Groups.{modifierTable, typeTable}
+use Rattle.names.specs.declared.table.Spelling.{Spelling}
+use Rattle.names.specs.declared.rows.TypeNumbers.{TypeNumbers}
 
 module _ {A : Type 0} where
   abbrev pub namesIn : List (Entry A) → List (List ℕ)
@@ -38,50 +40,43 @@ directiveEntries =
     ∷ directive "#augment" Directive.Augment
     ∷ []
 
--- the names of all groups, group after group; `None` and `Any` stand for no modifier and come last
-unfoldable pub allNames : List (List ℕ)
-allNames =
-    namesIn modifierEntries
-    ++ (namesIn typeEntries
-    ++ (namesIn keysymEntries
+-- the names of details and directives, list after list; `None` and `Any`, which stand for no modifier
+unfoldable pub otherNames : List (List ℕ)
+otherNames =
+    namesIn keysymEntries
     ++ (namesIn buttonEntries
     ++ (namesIn motionEntries
     ++ (namesIn modeEntries
-    ++ (namesIn requestEntries
-    ++ (namesIn directiveEntries ++ (bytes "None" ∷ bytes "Any" ∷ []))))))))
+    ++ (namesIn requestEntries ++ (namesIn directiveEntries ++ (bytes "None" ∷ bytes "Any" ∷ []))))))
+
+-- the names of every kind, in the order of their places
+unfoldable pub allNames : List (List ℕ)
+allNames = otherNames ++ (namesIn modifierTable ++ namesIn typeTable)
 
 -- the name at a place of the table
 unfoldable pub nameRow : ℕ → List ℕ
 nameRow k = getD allNames k []
 
--- names in one text, a blank after each
-abbrev pub joinedNames : List (List ℕ) → List ℕ
-joinedNames [] = []
-joinedNames (n ∷ ns) = n ++ (32 ∷ joinedNames ns)
+-- ---- How names are spelled in the code
 
--- where each name begins in that text, the first one at `start`
-abbrev pub startsFrom : ℕ → List (List ℕ) → List ℕ
-startsFrom start [] = []
-startsFrom start (n ∷ ns) = start ∷ startsFrom (start + length n + 1) ns
+-- bytes as one number, the first one lowest
+abbrev pub packed : List ℕ → ℕ
+packed [] = 0
+packed (b ∷ bs) = b + 256 * packed bs
 
-unfoldable pub nameText : List ℕ
-nameText = joinedNames allNames
+-- a word's length, its first eight bytes and the eight after them
+unfoldable pub spellingOf : List ℕ → Spelling
+spellingOf w = record { 0 = length w; 1 = packed (take 8 w); 2 = packed (take 8 (drop 8 w)) }
 
-unfoldable pub nameStarts : List ℕ
-nameStarts = startsFrom 0 allNames
+-- every element of a list is a byte
+abbrev pub Bytes : List ℕ → Type 0
+Bytes l = (i : ℕ) → getD l i 0 < 256
 
-unfoldable pub nameLengths : List ℕ
-nameLengths = map (λ (n : List ℕ). length n) allNames
+-- no name is longer than a spelling tells
+abbrev pub longestName : ℕ
+longestName = 16
 
--- the mark of a word: its first, fourth and last byte and its length, as one number. No two names of a group have the same,
--- so that a word is compared with one name at most; no rule depends on that.
-unfoldable pub markOf : List ℕ → ℕ
-markOf w = getD w 0 0 + 256 * getD w 3 0 + 65536 * getD w (length w - 1) 0 + 16777216 * (length w % 256)
-
-unfoldable pub nameMarks : List ℕ
-nameMarks = map markOf allNames
-
--- ---- What names stand for, as numbers
+-- ---- What names stand for
 
 -- a modifier's bit, 0..12, and from 13 on Meta, Alt, Hyper and Super
 abbrev pub bitNumber : ModifierName → ℕ
@@ -101,27 +96,22 @@ abbrev pub fixedNumber : Detail → ℕ
 fixedNumber Detail.Unspecified = 0
 fixedNumber (Detail.Value v) = v
 
-abbrev pub ofType : (EventType → ℕ) → TypeName → ℕ
-ofType f (TypeName.Known t) = f t
-ofType f TypeName.Unknown = 0
+-- an event type's code, what it adds and what it fixes
+abbrev pub numbersOf : TypeName → TypeNumbers
+numbersOf (TypeName.Known t) = record { 0 = t .code; 1 = addedNumber (t .added); 2 = fixedNumber (t .detail) }
+numbersOf TypeName.Unknown = record { 0 = 0; 1 = 0; 2 = 0 }
+
+unfoldable pub modifierBits : List ℕ
+modifierBits = map bitNumber (meaningsIn modifierTable)
+
+unfoldable pub typeNumbers : ℕ → TypeNumbers
+typeNumbers i = numbersOf (getD (meaningsIn typeTable) i TypeName.Unknown)
 
 abbrev pub valueNumber : DetailRead → ℕ
 valueNumber (DetailRead.Value v) = v
 valueNumber DetailRead.Unknown = 0
 valueNumber DetailRead.TooLarge = 0
 valueNumber DetailRead.NotBuilt = 0
-
-unfoldable pub modifierBits : List ℕ
-modifierBits = map bitNumber (meaningsIn modifierEntries)
-
-unfoldable pub typeCodes : List ℕ
-typeCodes = map (ofType (λ (t : EventType). t .code)) (meaningsIn typeEntries)
-
-unfoldable pub typeAdded : List ℕ
-typeAdded = map (ofType (λ (t : EventType). addedNumber (t .added))) (meaningsIn typeEntries)
-
-unfoldable pub typeDetails : List ℕ
-typeDetails = map (ofType (λ (t : EventType). fixedNumber (t .detail))) (meaningsIn typeEntries)
 
 -- keysyms, buttons, motion, modes, requests
 unfoldable pub detailValues : List ℕ
@@ -131,12 +121,18 @@ detailValues =
     ++ (meaningsIn buttonEntries
     ++ (meaningsIn motionEntries ++ (meaningsIn modeEntries ++ meaningsIn requestEntries))))
 
+-- the directive at a place among the directives
+abbrev pub directiveRow : ℕ → Directive
+directiveRow i = cond (eqb i 0) Directive.Replace (cond (eqb i 1) Directive.Override Directive.Augment)
+
 -- ---- The numbers read back: what a place of the table stands for
 
--- the modifier at a place
+abbrev pub modifierOf : ℕ → ModifierName
+modifierOf n = cond (ltb n 13) (ModifierName.Bit n) (ModifierName.Named (n - 13))
+
+-- the modifier at a place among the modifiers
 unfoldable pub modifierRow : ℕ → ModifierName
-modifierRow i =
-    cond (ltb (getD modifierBits i 0) 13) (ModifierName.Bit (getD modifierBits i 0)) (ModifierName.Named (getD modifierBits i 0 - 13))
+modifierRow i = modifierOf (getD modifierBits i 0)
 
 abbrev pub addedOf : ℕ → Added
 addedOf n =
@@ -145,11 +141,9 @@ addedOf n =
 abbrev pub fixedOf : ℕ → Detail
 fixedOf n = cond (eqb n 0) Detail.Unspecified (Detail.Value n)
 
+abbrev pub typeOf : TypeNumbers → EventType
+typeOf t = record { code = t .0; added = addedOf (t .1); detail = fixedOf (t .2) }
+
 -- the event type at a place among the types
 unfoldable pub typeRow : ℕ → EventType
-typeRow i =
-    record { code = getD typeCodes i 0; added = addedOf (getD typeAdded i 0); detail = fixedOf (getD typeDetails i 0) }
-
--- the directive at a place among the directives
-abbrev pub directiveRow : ℕ → Directive
-directiveRow i = cond (eqb i 0) Directive.Replace (cond (eqb i 1) Directive.Override Directive.Augment)
+typeRow i = typeOf (typeNumbers i)

@@ -1,5 +1,5 @@
 // What the names of the table stand for.
-use crate::table;
+use crate::rows;
 use model::events::Detail;
 use model::events::Directive;
 use model::names::Added;
@@ -7,21 +7,30 @@ use model::names::EventType;
 use model::names::ModifierName;
 ghost use mathlib.Core.Path.{_≡_};
 ghost use Prim.Native.Nat.{_<_};
-ghost use Rattle.names.specs.Table.{modifierRow, addedOf, fixedOf, typeRow, directiveRow};
+ghost use lib.ListN.{getD};
+ghost use Rattle.names.specs.Places.{directivesAt, modifierTotal, typeTotal};
+ghost use Rattle.names.specs.Table.{modifierBits, modifierRow, addedOf, fixedOf, typeRow, detailValues, directiveRow};
 
-// The modifier of a place in the table.
+fn modifier_bit(i: usize) -> u8
+    requires { ⌜ i < modifierTotal ⌝ }
+    ensures { λ r. ⌜ r ≡ getD modifierBits i 0 ⌝ }
+{
+    rows::MODIFIER_BITS[i]
+}
+
+// The modifier at a place among the modifiers.
 pub fn modifier_at(i: usize) -> ModifierName
-    requires { ⌜ i < 24 ⌝ }
+    requires { ⌜ i < modifierTotal ⌝ }
     ensures { λ r. ⌜ r ≡ modifierRow i ⌝ }
 {
-    let bit = table::modifier_bit(i);
+    let bit = modifier_bit(i);
     if bit < 13 {
         return ModifierName::Bit(bit);
     }
     ModifierName::Named(bit - 13)
 }
 
-pub fn added_of(n: u8) -> Added
+fn added_of(n: u8) -> Added
     ensures { λ r. ⌜ r ≡ addedOf n ⌝ }
 {
     if n < 13 {
@@ -36,7 +45,7 @@ pub fn added_of(n: u8) -> Added
     Added::Meta
 }
 
-pub fn fixed_of(n: u8) -> Detail
+fn fixed_of(n: u8) -> Detail
     ensures { λ r. ⌜ r ≡ fixedOf n ⌝ }
 {
     if n == 0 {
@@ -45,19 +54,28 @@ pub fn fixed_of(n: u8) -> Detail
     Detail::Value(n as u32)
 }
 
-// The event type of a place among the types.
+// The event type at a place among the types.
 pub fn type_at(i: usize) -> EventType
-    requires { ⌜ i < 87 ⌝ }
+    requires { ⌜ i < typeTotal ⌝ }
     ensures { λ r. ⌜ r ≡ typeRow i ⌝ }
 {
-    let code = table::type_code(i);
-    let added = added_of(table::type_added(i));
-    let detail = fixed_of(table::type_detail(i));
+    let row = rows::type_numbers(i);
+    let code = row.0;
+    let added = added_of(row.1);
+    let detail = fixed_of(row.2);
     EventType {
-        code: code,
-        added: added,
-        detail: detail,
+        code,
+        added,
+        detail,
     }
+}
+
+// The value at a place among the details.
+pub fn detail_value(i: usize) -> u32
+    requires { ⌜ i < directivesAt ⌝ }
+    ensures { λ r. ⌜ r ≡ getD detailValues i 0 ⌝ }
+{
+    rows::DETAIL_VALUES[i]
 }
 
 // The directive of a place among the directives.

@@ -1,952 +1,200 @@
-// The table of names: modifiers, event types, details, directives, `None` and `Any`. Rows of numbers stand beside one text
-// of all names, each row behind a function of its own, so that a writer can copy a name's bytes.
+// The table of names: details, directives, `None` and `Any`, then modifiers and event types in the order of their groups. The bytes
+// of a name stand at its place as numbers, so that a word is compared with it at once. A `match` on places is compiled to rows of
+// constants; an array would be copied to the stack wherever it is read.
+// Made by tools/name_table from the lists of crates/model/specs/Names.antt and Details.antt: change those and run it again.
 ghost use mathlib.Core.Path.{_≡_};
 ghost use Prim.Native.Nat.{_<_};
-ghost use lib.ListN.{getD};
-ghost use Rattle.names.specs.Table.{nameText, nameStarts, nameLengths, nameMarks, modifierBits, typeCodes, typeAdded, typeDetails, detailValues};
+ghost use Rattle.names.specs.Places.{nameTotal};
+ghost use Rattle.names.specs.Table.{nameRow, spellingOf};
 
-// The first name of each group. A group ends where the next one starts.
-pub const MODIFIERS: usize = 0;
+// The first place of each kind. A kind ends where the next one starts.
+pub const KEYSYMS: usize = 0;
 
-pub const TYPES: usize = 24;
+pub const BUTTONS: usize = 25;
 
-pub const KEYSYMS: usize = 111;
+pub const MOTIONS: usize = 30;
 
-pub const BUTTONS: usize = 136;
+pub const MODES: usize = 32;
 
-pub const MOTIONS: usize = 141;
+pub const REQUESTS: usize = 36;
 
-pub const MODES: usize = 143;
+pub const DIRECTIVES: usize = 39;
 
-pub const REQUESTS: usize = 147;
+pub const NONE: usize = 42;
 
-pub const DIRECTIVES: usize = 150;
+pub const ANY: usize = 43;
 
-pub const NONE: usize = 153;
+pub const MODIFIERS: usize = 44;
 
-pub const ANY: usize = 154;
+pub const TYPES: usize = 68;
 
-// Every name, in the groups' order, with a blank after it.
-const NAME_TEXT: [u8; 1237] = *b"\
-    Ctrl c Shift s Lock l Mod1 Mod2 Mod3 Mod4 Mod5 Button1 Button2 Button3 Button4 Button5 Meta m \
-    Hyper h Super su Alt a \
-    KeyPress KeyRelease ButtonPress ButtonRelease MotionNotify EnterNotify LeaveNotify FocusIn \
-    FocusOut KeymapNotify Expose GraphicsExpose NoExpose VisibilityNotify CreateNotify \
-    DestroyNotify UnmapNotify MapNotify MapRequest ReparentNotify ConfigureNotify ConfigureRequest \
-    GravityNotify ResizeRequest CirculateNotify CirculateRequest PropertyNotify SelectionClear \
-    SelectionRequest SelectionNotify ColormapNotify ClientMessage MappingNotify \
-    Key KeyDown KeyUp BtnDown BtnUp Motion PtrMoved MouseMoved Enter EnterWindow Leave LeaveWindow \
-    Keymap GrExp NoExp Visible Create Destroy Unmap Map MapReq Reparent Configure ConfigureReq Grav \
-    ResReq Circ CircReq Prop SelClr SelReq Select Clrmap Message Mapping \
-    Ctrl Meta Shift Btn1Down Btn1Up Btn2Down Btn2Up Btn3Down Btn3Up Btn4Down Btn4Up Btn5Down Btn5Up \
-    BtnMotion Btn1Motion Btn2Motion Btn3Motion Btn4Motion Btn5Motion \
-    space comma colon BackSpace Tab Return Escape Delete Home Left Up Right Down F1 F2 F3 F4 F5 F6 \
-    F7 F8 F9 F10 F11 F12 \
-    Button1 Button2 Button3 Button4 Button5 \
-    Normal Hint \
-    Normal Grab Ungrab WhileGrabbed \
-    Modifier Keyboard Pointer \
-    #replace #override #augment \
-    None Any ";
+// A name's length, its first eight bytes and the eight after them, each as a number with the first byte lowest.
+pub struct Spelling(pub usize, pub u64, pub u64);
 
-// Where each name starts in the text.
-const NAME_STARTS: [u16; 155] = [
-    0, // Ctrl
-    5, // c
-    7, // Shift
-    13, // s
-    15, // Lock
-    20, // l
-    22, // Mod1
-    27, // Mod2
-    32, // Mod3
-    37, // Mod4
-    42, // Mod5
-    47, // Button1
-    55, // Button2
-    63, // Button3
-    71, // Button4
-    79, // Button5
-    87, // Meta
-    92, // m
-    94, // Hyper
-    100, // h
-    102, // Super
-    108, // su
-    111, // Alt
-    115, // a
-    117, // KeyPress
-    126, // KeyRelease
-    137, // ButtonPress
-    149, // ButtonRelease
-    163, // MotionNotify
-    176, // EnterNotify
-    188, // LeaveNotify
-    200, // FocusIn
-    208, // FocusOut
-    217, // KeymapNotify
-    230, // Expose
-    237, // GraphicsExpose
-    252, // NoExpose
-    261, // VisibilityNotify
-    278, // CreateNotify
-    291, // DestroyNotify
-    305, // UnmapNotify
-    317, // MapNotify
-    327, // MapRequest
-    338, // ReparentNotify
-    353, // ConfigureNotify
-    369, // ConfigureRequest
-    386, // GravityNotify
-    400, // ResizeRequest
-    414, // CirculateNotify
-    430, // CirculateRequest
-    447, // PropertyNotify
-    462, // SelectionClear
-    477, // SelectionRequest
-    494, // SelectionNotify
-    510, // ColormapNotify
-    525, // ClientMessage
-    539, // MappingNotify
-    553, // Key
-    557, // KeyDown
-    565, // KeyUp
-    571, // BtnDown
-    579, // BtnUp
-    585, // Motion
-    592, // PtrMoved
-    601, // MouseMoved
-    612, // Enter
-    618, // EnterWindow
-    630, // Leave
-    636, // LeaveWindow
-    648, // Keymap
-    655, // GrExp
-    661, // NoExp
-    667, // Visible
-    675, // Create
-    682, // Destroy
-    690, // Unmap
-    696, // Map
-    700, // MapReq
-    707, // Reparent
-    716, // Configure
-    726, // ConfigureReq
-    739, // Grav
-    744, // ResReq
-    751, // Circ
-    756, // CircReq
-    764, // Prop
-    769, // SelClr
-    776, // SelReq
-    783, // Select
-    790, // Clrmap
-    797, // Message
-    805, // Mapping
-    813, // Ctrl
-    818, // Meta
-    823, // Shift
-    829, // Btn1Down
-    838, // Btn1Up
-    845, // Btn2Down
-    854, // Btn2Up
-    861, // Btn3Down
-    870, // Btn3Up
-    877, // Btn4Down
-    886, // Btn4Up
-    893, // Btn5Down
-    902, // Btn5Up
-    909, // BtnMotion
-    919, // Btn1Motion
-    930, // Btn2Motion
-    941, // Btn3Motion
-    952, // Btn4Motion
-    963, // Btn5Motion
-    974, // space
-    980, // comma
-    986, // colon
-    992, // BackSpace
-    1002, // Tab
-    1006, // Return
-    1013, // Escape
-    1020, // Delete
-    1027, // Home
-    1032, // Left
-    1037, // Up
-    1040, // Right
-    1046, // Down
-    1051, // F1
-    1054, // F2
-    1057, // F3
-    1060, // F4
-    1063, // F5
-    1066, // F6
-    1069, // F7
-    1072, // F8
-    1075, // F9
-    1078, // F10
-    1082, // F11
-    1086, // F12
-    1090, // Button1
-    1098, // Button2
-    1106, // Button3
-    1114, // Button4
-    1122, // Button5
-    1130, // Normal
-    1137, // Hint
-    1142, // Normal
-    1149, // Grab
-    1154, // Ungrab
-    1161, // WhileGrabbed
-    1174, // Modifier
-    1183, // Keyboard
-    1192, // Pointer
-    1200, // #replace
-    1209, // #override
-    1219, // #augment
-    1228, // None
-    1233, // Any
-];
+// A spelling has room for no more bytes.
+pub const LONGEST: usize = 16;
 
-const NAME_LENGTHS: [u8; 155] = [
-    4, // Ctrl
-    1, // c
-    5, // Shift
-    1, // s
-    4, // Lock
-    1, // l
-    4, // Mod1
-    4, // Mod2
-    4, // Mod3
-    4, // Mod4
-    4, // Mod5
-    7, // Button1
-    7, // Button2
-    7, // Button3
-    7, // Button4
-    7, // Button5
-    4, // Meta
-    1, // m
-    5, // Hyper
-    1, // h
-    5, // Super
-    2, // su
-    3, // Alt
-    1, // a
-    8, // KeyPress
-    10, // KeyRelease
-    11, // ButtonPress
-    13, // ButtonRelease
-    12, // MotionNotify
-    11, // EnterNotify
-    11, // LeaveNotify
-    7, // FocusIn
-    8, // FocusOut
-    12, // KeymapNotify
-    6, // Expose
-    14, // GraphicsExpose
-    8, // NoExpose
-    16, // VisibilityNotify
-    12, // CreateNotify
-    13, // DestroyNotify
-    11, // UnmapNotify
-    9, // MapNotify
-    10, // MapRequest
-    14, // ReparentNotify
-    15, // ConfigureNotify
-    16, // ConfigureRequest
-    13, // GravityNotify
-    13, // ResizeRequest
-    15, // CirculateNotify
-    16, // CirculateRequest
-    14, // PropertyNotify
-    14, // SelectionClear
-    16, // SelectionRequest
-    15, // SelectionNotify
-    14, // ColormapNotify
-    13, // ClientMessage
-    13, // MappingNotify
-    3, // Key
-    7, // KeyDown
-    5, // KeyUp
-    7, // BtnDown
-    5, // BtnUp
-    6, // Motion
-    8, // PtrMoved
-    10, // MouseMoved
-    5, // Enter
-    11, // EnterWindow
-    5, // Leave
-    11, // LeaveWindow
-    6, // Keymap
-    5, // GrExp
-    5, // NoExp
-    7, // Visible
-    6, // Create
-    7, // Destroy
-    5, // Unmap
-    3, // Map
-    6, // MapReq
-    8, // Reparent
-    9, // Configure
-    12, // ConfigureReq
-    4, // Grav
-    6, // ResReq
-    4, // Circ
-    7, // CircReq
-    4, // Prop
-    6, // SelClr
-    6, // SelReq
-    6, // Select
-    6, // Clrmap
-    7, // Message
-    7, // Mapping
-    4, // Ctrl
-    4, // Meta
-    5, // Shift
-    8, // Btn1Down
-    6, // Btn1Up
-    8, // Btn2Down
-    6, // Btn2Up
-    8, // Btn3Down
-    6, // Btn3Up
-    8, // Btn4Down
-    6, // Btn4Up
-    8, // Btn5Down
-    6, // Btn5Up
-    9, // BtnMotion
-    10, // Btn1Motion
-    10, // Btn2Motion
-    10, // Btn3Motion
-    10, // Btn4Motion
-    10, // Btn5Motion
-    5, // space
-    5, // comma
-    5, // colon
-    9, // BackSpace
-    3, // Tab
-    6, // Return
-    6, // Escape
-    6, // Delete
-    4, // Home
-    4, // Left
-    2, // Up
-    5, // Right
-    4, // Down
-    2, // F1
-    2, // F2
-    2, // F3
-    2, // F4
-    2, // F5
-    2, // F6
-    2, // F7
-    2, // F8
-    2, // F9
-    3, // F10
-    3, // F11
-    3, // F12
-    7, // Button1
-    7, // Button2
-    7, // Button3
-    7, // Button4
-    7, // Button5
-    6, // Normal
-    4, // Hint
-    6, // Normal
-    4, // Grab
-    6, // Ungrab
-    12, // WhileGrabbed
-    8, // Modifier
-    8, // Keyboard
-    7, // Pointer
-    8, // #replace
-    9, // #override
-    8, // #augment
-    4, // None
-    3, // Any
-];
-
-// The mark of each name: its first, fourth and last byte and its length, the first byte lowest.
-const NAME_MARKS: [u32; 155] = [
-    0x046c6c43, // Ctrl
-    0x01630063, // c
-    0x05746653, // Shift
-    0x01730073, // s
-    0x046b6b4c, // Lock
-    0x016c006c, // l
-    0x0431314d, // Mod1
-    0x0432324d, // Mod2
-    0x0433334d, // Mod3
-    0x0434344d, // Mod4
-    0x0435354d, // Mod5
-    0x07317442, // Button1
-    0x07327442, // Button2
-    0x07337442, // Button3
-    0x07347442, // Button4
-    0x07357442, // Button5
-    0x0461614d, // Meta
-    0x016d006d, // m
-    0x05726548, // Hyper
-    0x01680068, // h
-    0x05726553, // Super
-    0x02750073, // su
-    0x03740041, // Alt
-    0x01610061, // a
-    0x0873504b, // KeyPress
-    0x0a65524b, // KeyRelease
-    0x0b737442, // ButtonPress
-    0x0d657442, // ButtonRelease
-    0x0c79694d, // MotionNotify
-    0x0b796545, // EnterNotify
-    0x0b79764c, // LeaveNotify
-    0x076e7546, // FocusIn
-    0x08747546, // FocusOut
-    0x0c796d4b, // KeymapNotify
-    0x06656f45, // Expose
-    0x0e657047, // GraphicsExpose
-    0x0865784e, // NoExpose
-    0x10796956, // VisibilityNotify
-    0x0c796143, // CreateNotify
-    0x0d797444, // DestroyNotify
-    0x0b796155, // UnmapNotify
-    0x09794e4d, // MapNotify
-    0x0a74524d, // MapRequest
-    0x0e796152, // ReparentNotify
-    0x0f796643, // ConfigureNotify
-    0x10746643, // ConfigureRequest
-    0x0d797647, // GravityNotify
-    0x0d746952, // ResizeRequest
-    0x0f796343, // CirculateNotify
-    0x10746343, // CirculateRequest
-    0x0e797050, // PropertyNotify
-    0x0e726553, // SelectionClear
-    0x10746553, // SelectionRequest
-    0x0f796553, // SelectionNotify
-    0x0e796f43, // ColormapNotify
-    0x0d656543, // ClientMessage
-    0x0d79704d, // MappingNotify
-    0x0379004b, // Key
-    0x076e444b, // KeyDown
-    0x0570554b, // KeyUp
-    0x076e4442, // BtnDown
-    0x05705542, // BtnUp
-    0x066e694d, // Motion
-    0x08644d50, // PtrMoved
-    0x0a64734d, // MouseMoved
-    0x05726545, // Enter
-    0x0b776545, // EnterWindow
-    0x0565764c, // Leave
-    0x0b77764c, // LeaveWindow
-    0x06706d4b, // Keymap
-    0x05707847, // GrExp
-    0x0570784e, // NoExp
-    0x07656956, // Visible
-    0x06656143, // Create
-    0x07797444, // Destroy
-    0x05706155, // Unmap
-    0x0370004d, // Map
-    0x0671524d, // MapReq
-    0x08746152, // Reparent
-    0x09656643, // Configure
-    0x0c716643, // ConfigureReq
-    0x04767647, // Grav
-    0x06715252, // ResReq
-    0x04636343, // Circ
-    0x07716343, // CircReq
-    0x04707050, // Prop
-    0x06724353, // SelClr
-    0x06715253, // SelReq
-    0x06746553, // Select
-    0x06706d43, // Clrmap
-    0x0765734d, // Message
-    0x0767704d, // Mapping
-    0x046c6c43, // Ctrl
-    0x0461614d, // Meta
-    0x05746653, // Shift
-    0x086e3142, // Btn1Down
-    0x06703142, // Btn1Up
-    0x086e3242, // Btn2Down
-    0x06703242, // Btn2Up
-    0x086e3342, // Btn3Down
-    0x06703342, // Btn3Up
-    0x086e3442, // Btn4Down
-    0x06703442, // Btn4Up
-    0x086e3542, // Btn5Down
-    0x06703542, // Btn5Up
-    0x096e4d42, // BtnMotion
-    0x0a6e3142, // Btn1Motion
-    0x0a6e3242, // Btn2Motion
-    0x0a6e3342, // Btn3Motion
-    0x0a6e3442, // Btn4Motion
-    0x0a6e3542, // Btn5Motion
-    0x05656373, // space
-    0x05616d63, // comma
-    0x056e6f63, // colon
-    0x09656b42, // BackSpace
-    0x03620054, // Tab
-    0x066e7552, // Return
-    0x06656145, // Escape
-    0x06656544, // Delete
-    0x04656548, // Home
-    0x0474744c, // Left
-    0x02700055, // Up
-    0x05746852, // Right
-    0x046e6e44, // Down
-    0x02310046, // F1
-    0x02320046, // F2
-    0x02330046, // F3
-    0x02340046, // F4
-    0x02350046, // F5
-    0x02360046, // F6
-    0x02370046, // F7
-    0x02380046, // F8
-    0x02390046, // F9
-    0x03300046, // F10
-    0x03310046, // F11
-    0x03320046, // F12
-    0x07317442, // Button1
-    0x07327442, // Button2
-    0x07337442, // Button3
-    0x07347442, // Button4
-    0x07357442, // Button5
-    0x066c6d4e, // Normal
-    0x04747448, // Hint
-    0x066c6d4e, // Normal
-    0x04626247, // Grab
-    0x06627255, // Ungrab
-    0x0c646c57, // WhileGrabbed
-    0x0872694d, // Modifier
-    0x0864624b, // Keyboard
-    0x07726e50, // Pointer
-    0x08657023, // #replace
-    0x09656523, // #override
-    0x08746723, // #augment
-    0x0465654e, // None
-    0x03790041, // Any
-];
-
-// Of each modifier name its bit; 13..16 for Meta, Alt, Hyper and Super.
-const MODIFIER_BITS: [u8; 24] = [
-    2, // Ctrl
-    2, // c
-    0, // Shift
-    0, // s
-    1, // Lock
-    1, // l
-    3, // Mod1
-    4, // Mod2
-    5, // Mod3
-    6, // Mod4
-    7, // Mod5
-    8, // Button1
-    9, // Button2
-    10, // Button3
-    11, // Button4
-    12, // Button5
-    13, // Meta
-    13, // m
-    15, // Hyper
-    15, // h
-    16, // Super
-    16, // su
-    14, // Alt
-    14, // a
-];
-
-// Of each event type's name the event code: the protocol's names, then Appendix B's synonyms and abbreviations.
-const TYPE_CODES: [u8; 87] = [
-    2, // KeyPress
-    3, // KeyRelease
-    4, // ButtonPress
-    5, // ButtonRelease
-    6, // MotionNotify
-    7, // EnterNotify
-    8, // LeaveNotify
-    9, // FocusIn
-    10, // FocusOut
-    11, // KeymapNotify
-    12, // Expose
-    13, // GraphicsExpose
-    14, // NoExpose
-    15, // VisibilityNotify
-    16, // CreateNotify
-    17, // DestroyNotify
-    18, // UnmapNotify
-    19, // MapNotify
-    20, // MapRequest
-    21, // ReparentNotify
-    22, // ConfigureNotify
-    23, // ConfigureRequest
-    24, // GravityNotify
-    25, // ResizeRequest
-    26, // CirculateNotify
-    27, // CirculateRequest
-    28, // PropertyNotify
-    29, // SelectionClear
-    30, // SelectionRequest
-    31, // SelectionNotify
-    32, // ColormapNotify
-    33, // ClientMessage
-    34, // MappingNotify
-    2, // Key
-    2, // KeyDown
-    3, // KeyUp
-    4, // BtnDown
-    5, // BtnUp
-    6, // Motion
-    6, // PtrMoved
-    6, // MouseMoved
-    7, // Enter
-    7, // EnterWindow
-    8, // Leave
-    8, // LeaveWindow
-    11, // Keymap
-    13, // GrExp
-    14, // NoExp
-    15, // Visible
-    16, // Create
-    17, // Destroy
-    18, // Unmap
-    19, // Map
-    20, // MapReq
-    21, // Reparent
-    22, // Configure
-    23, // ConfigureReq
-    24, // Grav
-    25, // ResReq
-    26, // Circ
-    27, // CircReq
-    28, // Prop
-    29, // SelClr
-    30, // SelReq
-    31, // Select
-    32, // Clrmap
-    33, // Message
-    34, // Mapping
-    2, // Ctrl
-    2, // Meta
-    2, // Shift
-    4, // Btn1Down
-    5, // Btn1Up
-    4, // Btn2Down
-    5, // Btn2Up
-    4, // Btn3Down
-    5, // Btn3Up
-    4, // Btn4Down
-    5, // Btn4Up
-    4, // Btn5Down
-    5, // Btn5Up
-    6, // BtnMotion
-    6, // Btn1Motion
-    6, // Btn2Motion
-    6, // Btn3Motion
-    6, // Btn4Motion
-    6, // Btn5Motion
-];
-
-// The modifier bit that a type's name adds; 13 for none, 14 for any button, 15 for Meta.
-const TYPE_ADDED: [u8; 87] = [
-    13, // KeyPress
-    13, // KeyRelease
-    13, // ButtonPress
-    13, // ButtonRelease
-    13, // MotionNotify
-    13, // EnterNotify
-    13, // LeaveNotify
-    13, // FocusIn
-    13, // FocusOut
-    13, // KeymapNotify
-    13, // Expose
-    13, // GraphicsExpose
-    13, // NoExpose
-    13, // VisibilityNotify
-    13, // CreateNotify
-    13, // DestroyNotify
-    13, // UnmapNotify
-    13, // MapNotify
-    13, // MapRequest
-    13, // ReparentNotify
-    13, // ConfigureNotify
-    13, // ConfigureRequest
-    13, // GravityNotify
-    13, // ResizeRequest
-    13, // CirculateNotify
-    13, // CirculateRequest
-    13, // PropertyNotify
-    13, // SelectionClear
-    13, // SelectionRequest
-    13, // SelectionNotify
-    13, // ColormapNotify
-    13, // ClientMessage
-    13, // MappingNotify
-    13, // Key
-    13, // KeyDown
-    13, // KeyUp
-    13, // BtnDown
-    13, // BtnUp
-    13, // Motion
-    13, // PtrMoved
-    13, // MouseMoved
-    13, // Enter
-    13, // EnterWindow
-    13, // Leave
-    13, // LeaveWindow
-    13, // Keymap
-    13, // GrExp
-    13, // NoExp
-    13, // Visible
-    13, // Create
-    13, // Destroy
-    13, // Unmap
-    13, // Map
-    13, // MapReq
-    13, // Reparent
-    13, // Configure
-    13, // ConfigureReq
-    13, // Grav
-    13, // ResReq
-    13, // Circ
-    13, // CircReq
-    13, // Prop
-    13, // SelClr
-    13, // SelReq
-    13, // Select
-    13, // Clrmap
-    13, // Message
-    13, // Mapping
-    2, // Ctrl
-    15, // Meta
-    0, // Shift
-    13, // Btn1Down
-    13, // Btn1Up
-    13, // Btn2Down
-    13, // Btn2Up
-    13, // Btn3Down
-    13, // Btn3Up
-    13, // Btn4Down
-    13, // Btn4Up
-    13, // Btn5Down
-    13, // Btn5Up
-    14, // BtnMotion
-    8, // Btn1Motion
-    9, // Btn2Motion
-    10, // Btn3Motion
-    11, // Btn4Motion
-    12, // Btn5Motion
-];
-
-// The button that a type's name fixes; 0 for none.
-const TYPE_DETAILS: [u8; 87] = [
-    0, // KeyPress
-    0, // KeyRelease
-    0, // ButtonPress
-    0, // ButtonRelease
-    0, // MotionNotify
-    0, // EnterNotify
-    0, // LeaveNotify
-    0, // FocusIn
-    0, // FocusOut
-    0, // KeymapNotify
-    0, // Expose
-    0, // GraphicsExpose
-    0, // NoExpose
-    0, // VisibilityNotify
-    0, // CreateNotify
-    0, // DestroyNotify
-    0, // UnmapNotify
-    0, // MapNotify
-    0, // MapRequest
-    0, // ReparentNotify
-    0, // ConfigureNotify
-    0, // ConfigureRequest
-    0, // GravityNotify
-    0, // ResizeRequest
-    0, // CirculateNotify
-    0, // CirculateRequest
-    0, // PropertyNotify
-    0, // SelectionClear
-    0, // SelectionRequest
-    0, // SelectionNotify
-    0, // ColormapNotify
-    0, // ClientMessage
-    0, // MappingNotify
-    0, // Key
-    0, // KeyDown
-    0, // KeyUp
-    0, // BtnDown
-    0, // BtnUp
-    0, // Motion
-    0, // PtrMoved
-    0, // MouseMoved
-    0, // Enter
-    0, // EnterWindow
-    0, // Leave
-    0, // LeaveWindow
-    0, // Keymap
-    0, // GrExp
-    0, // NoExp
-    0, // Visible
-    0, // Create
-    0, // Destroy
-    0, // Unmap
-    0, // Map
-    0, // MapReq
-    0, // Reparent
-    0, // Configure
-    0, // ConfigureReq
-    0, // Grav
-    0, // ResReq
-    0, // Circ
-    0, // CircReq
-    0, // Prop
-    0, // SelClr
-    0, // SelReq
-    0, // Select
-    0, // Clrmap
-    0, // Message
-    0, // Mapping
-    0, // Ctrl
-    0, // Meta
-    0, // Shift
-    1, // Btn1Down
-    1, // Btn1Up
-    2, // Btn2Down
-    2, // Btn2Up
-    3, // Btn3Down
-    3, // Btn3Up
-    4, // Btn4Down
-    4, // Btn4Up
-    5, // Btn5Down
-    5, // Btn5Up
-    0, // BtnMotion
-    0, // Btn1Motion
-    0, // Btn2Motion
-    0, // Btn3Motion
-    0, // Btn4Motion
-    0, // Btn5Motion
-];
-
-// Of each detail's name its value: keysyms, buttons, motion, modes, requests.
-const DETAIL_VALUES: [u32; 39] = [
-    32, // space
-    44, // comma
-    58, // colon
-    0xff08, // BackSpace
-    0xff09, // Tab
-    0xff0d, // Return
-    0xff1b, // Escape
-    0xffff, // Delete
-    0xff50, // Home
-    0xff51, // Left
-    0xff52, // Up
-    0xff53, // Right
-    0xff54, // Down
-    0xffbe, // F1
-    0xffbf, // F2
-    0xffc0, // F3
-    0xffc1, // F4
-    0xffc2, // F5
-    0xffc3, // F6
-    0xffc4, // F7
-    0xffc5, // F8
-    0xffc6, // F9
-    0xffc7, // F10
-    0xffc8, // F11
-    0xffc9, // F12
-    1, // Button1
-    2, // Button2
-    3, // Button3
-    4, // Button4
-    5, // Button5
-    0, // Normal
-    1, // Hint
-    0, // Normal
-    1, // Grab
-    2, // Ungrab
-    3, // WhileGrabbed
-    0, // Modifier
-    1, // Keyboard
-    2, // Pointer
-];
-
-fn size(n: u8) -> usize
-    ensures { λ r. ⌜ r ≡ n ⌝ }
+// The name at a place.
+pub fn spelling_at(place: usize) -> Spelling
+    requires { ⌜ place < nameTotal ⌝ }
+    ensures { λ r. ⌜ r ≡ spellingOf (nameRow place) ⌝ }
 {
-    n as usize
-}
-
-fn offset(n: u16) -> usize
-    ensures { λ r. ⌜ r ≡ n ⌝ }
-{
-    n as usize
-}
-
-// All names, for a reader of many bytes of them: a row is copied where it is used.
-pub fn name_text() -> [u8; 1237]
-    ensures { λ r. ⌜ r ≡ nameText ⌝ }
-{
-    NAME_TEXT
-}
-
-pub fn name_marks() -> [u32; 155]
-    ensures { λ r. ⌜ r ≡ nameMarks ⌝ }
-{
-    NAME_MARKS
-}
-
-// A byte of the text of names.
-pub fn name_byte(i: usize) -> u8
-    requires { ⌜ i < 1237 ⌝ }
-    ensures { λ r. ⌜ r ≡ getD nameText i 0 ⌝ }
-{
-    NAME_TEXT[i]
-}
-
-pub fn name_start(i: usize) -> usize
-    requires { ⌜ i < 155 ⌝ }
-    ensures { λ r. ⌜ r ≡ getD nameStarts i 0 ⌝ }
-{
-    offset(NAME_STARTS[i])
-}
-
-pub fn name_length(i: usize) -> usize
-    requires { ⌜ i < 155 ⌝ }
-    ensures { λ r. ⌜ r ≡ getD nameLengths i 0 ⌝ }
-{
-    size(NAME_LENGTHS[i])
-}
-
-pub fn modifier_bit(i: usize) -> u8
-    requires { ⌜ i < 24 ⌝ }
-    ensures { λ r. ⌜ r ≡ getD modifierBits i 0 ⌝ }
-{
-    MODIFIER_BITS[i]
-}
-
-pub fn type_code(i: usize) -> u8
-    requires { ⌜ i < 87 ⌝ }
-    ensures { λ r. ⌜ r ≡ getD typeCodes i 0 ⌝ }
-{
-    TYPE_CODES[i]
-}
-
-pub fn type_added(i: usize) -> u8
-    requires { ⌜ i < 87 ⌝ }
-    ensures { λ r. ⌜ r ≡ getD typeAdded i 0 ⌝ }
-{
-    TYPE_ADDED[i]
-}
-
-pub fn type_detail(i: usize) -> u8
-    requires { ⌜ i < 87 ⌝ }
-    ensures { λ r. ⌜ r ≡ getD typeDetails i 0 ⌝ }
-{
-    TYPE_DETAILS[i]
-}
-
-pub fn detail_value(i: usize) -> u32
-    requires { ⌜ i < 39 ⌝ }
-    ensures { λ r. ⌜ r ≡ getD detailValues i 0 ⌝ }
-{
-    DETAIL_VALUES[i]
+    match place {
+        0 => Spelling(5, 0x6563617073, 0x0), // space
+        1 => Spelling(5, 0x616d6d6f63, 0x0), // comma
+        2 => Spelling(5, 0x6e6f6c6f63, 0x0), // colon
+        3 => Spelling(9, 0x636170536b636142, 0x65), // BackSpace
+        4 => Spelling(3, 0x626154, 0x0), // Tab
+        5 => Spelling(6, 0x6e7275746552, 0x0), // Return
+        6 => Spelling(6, 0x657061637345, 0x0), // Escape
+        7 => Spelling(6, 0x6574656c6544, 0x0), // Delete
+        8 => Spelling(4, 0x656d6f48, 0x0), // Home
+        9 => Spelling(4, 0x7466654c, 0x0), // Left
+        10 => Spelling(2, 0x7055, 0x0), // Up
+        11 => Spelling(5, 0x7468676952, 0x0), // Right
+        12 => Spelling(4, 0x6e776f44, 0x0), // Down
+        13 => Spelling(2, 0x3146, 0x0), // F1
+        14 => Spelling(2, 0x3246, 0x0), // F2
+        15 => Spelling(2, 0x3346, 0x0), // F3
+        16 => Spelling(2, 0x3446, 0x0), // F4
+        17 => Spelling(2, 0x3546, 0x0), // F5
+        18 => Spelling(2, 0x3646, 0x0), // F6
+        19 => Spelling(2, 0x3746, 0x0), // F7
+        20 => Spelling(2, 0x3846, 0x0), // F8
+        21 => Spelling(2, 0x3946, 0x0), // F9
+        22 => Spelling(3, 0x303146, 0x0), // F10
+        23 => Spelling(3, 0x313146, 0x0), // F11
+        24 => Spelling(3, 0x323146, 0x0), // F12
+        25 => Spelling(7, 0x316e6f74747542, 0x0), // Button1
+        26 => Spelling(7, 0x326e6f74747542, 0x0), // Button2
+        27 => Spelling(7, 0x336e6f74747542, 0x0), // Button3
+        28 => Spelling(7, 0x346e6f74747542, 0x0), // Button4
+        29 => Spelling(7, 0x356e6f74747542, 0x0), // Button5
+        30 => Spelling(6, 0x6c616d726f4e, 0x0), // Normal
+        31 => Spelling(4, 0x746e6948, 0x0), // Hint
+        32 => Spelling(6, 0x6c616d726f4e, 0x0), // Normal
+        33 => Spelling(4, 0x62617247, 0x0), // Grab
+        34 => Spelling(6, 0x626172676e55, 0x0), // Ungrab
+        35 => Spelling(12, 0x617247656c696857, 0x64656262), // WhileGrabbed
+        36 => Spelling(8, 0x7265696669646f4d, 0x0), // Modifier
+        37 => Spelling(8, 0x6472616f6279654b, 0x0), // Keyboard
+        38 => Spelling(7, 0x7265746e696f50, 0x0), // Pointer
+        39 => Spelling(8, 0x6563616c70657223, 0x0), // #replace
+        40 => Spelling(9, 0x6469727265766f23, 0x65), // #override
+        41 => Spelling(8, 0x746e656d67756123, 0x0), // #augment
+        42 => Spelling(4, 0x656e6f4e, 0x0), // None
+        43 => Spelling(3, 0x796e41, 0x0), // Any
+        44 => Spelling(3, 0x746c41, 0x0), // Alt
+        45 => Spelling(7, 0x316e6f74747542, 0x0), // Button1
+        46 => Spelling(7, 0x326e6f74747542, 0x0), // Button2
+        47 => Spelling(7, 0x336e6f74747542, 0x0), // Button3
+        48 => Spelling(7, 0x346e6f74747542, 0x0), // Button4
+        49 => Spelling(7, 0x356e6f74747542, 0x0), // Button5
+        50 => Spelling(4, 0x6c727443, 0x0), // Ctrl
+        51 => Spelling(5, 0x7265707948, 0x0), // Hyper
+        52 => Spelling(4, 0x6b636f4c, 0x0), // Lock
+        53 => Spelling(4, 0x31646f4d, 0x0), // Mod1
+        54 => Spelling(4, 0x32646f4d, 0x0), // Mod2
+        55 => Spelling(4, 0x33646f4d, 0x0), // Mod3
+        56 => Spelling(4, 0x34646f4d, 0x0), // Mod4
+        57 => Spelling(4, 0x35646f4d, 0x0), // Mod5
+        58 => Spelling(4, 0x6174654d, 0x0), // Meta
+        59 => Spelling(5, 0x7466696853, 0x0), // Shift
+        60 => Spelling(5, 0x7265707553, 0x0), // Super
+        61 => Spelling(1, 0x61, 0x0), // a
+        62 => Spelling(1, 0x63, 0x0), // c
+        63 => Spelling(1, 0x68, 0x0), // h
+        64 => Spelling(1, 0x6c, 0x0), // l
+        65 => Spelling(1, 0x6d, 0x0), // m
+        66 => Spelling(1, 0x73, 0x0), // s
+        67 => Spelling(2, 0x7573, 0x0), // su
+        68 => Spelling(5, 0x70556e7442, 0x0), // BtnUp
+        69 => Spelling(6, 0x7055316e7442, 0x0), // Btn1Up
+        70 => Spelling(6, 0x7055326e7442, 0x0), // Btn2Up
+        71 => Spelling(6, 0x7055336e7442, 0x0), // Btn3Up
+        72 => Spelling(6, 0x7055346e7442, 0x0), // Btn4Up
+        73 => Spelling(6, 0x7055356e7442, 0x0), // Btn5Up
+        74 => Spelling(7, 0x6e776f446e7442, 0x0), // BtnDown
+        75 => Spelling(8, 0x6e776f44316e7442, 0x0), // Btn1Down
+        76 => Spelling(8, 0x6e776f44326e7442, 0x0), // Btn2Down
+        77 => Spelling(8, 0x6e776f44336e7442, 0x0), // Btn3Down
+        78 => Spelling(8, 0x6e776f44346e7442, 0x0), // Btn4Down
+        79 => Spelling(8, 0x6e776f44356e7442, 0x0), // Btn5Down
+        80 => Spelling(9, 0x6f69746f4d6e7442, 0x6e), // BtnMotion
+        81 => Spelling(10, 0x69746f4d316e7442, 0x6e6f), // Btn1Motion
+        82 => Spelling(10, 0x69746f4d326e7442, 0x6e6f), // Btn2Motion
+        83 => Spelling(10, 0x69746f4d336e7442, 0x6e6f), // Btn3Motion
+        84 => Spelling(10, 0x69746f4d346e7442, 0x6e6f), // Btn4Motion
+        85 => Spelling(10, 0x69746f4d356e7442, 0x6e6f), // Btn5Motion
+        86 => Spelling(11, 0x72506e6f74747542, 0x737365), // ButtonPress
+        87 => Spelling(13, 0x65526e6f74747542, 0x657361656c), // ButtonRelease
+        88 => Spelling(4, 0x63726943, 0x0), // Circ
+        89 => Spelling(4, 0x6c727443, 0x0), // Ctrl
+        90 => Spelling(6, 0x657461657243, 0x0), // Create
+        91 => Spelling(6, 0x70616d726c43, 0x0), // Clrmap
+        92 => Spelling(7, 0x71655263726943, 0x0), // CircReq
+        93 => Spelling(9, 0x72756769666e6f43, 0x65), // Configure
+        94 => Spelling(12, 0x6f4e657461657243, 0x79666974), // CreateNotify
+        95 => Spelling(12, 0x72756769666e6f43, 0x71655265), // ConfigureReq
+        96 => Spelling(13, 0x654d746e65696c43, 0x6567617373), // ClientMessage
+        97 => Spelling(14, 0x70616d726f6c6f43, 0x796669746f4e), // ColormapNotify
+        98 => Spelling(15, 0x72756769666e6f43, 0x796669746f4e65), // ConfigureNotify
+        99 => Spelling(15, 0x74616c7563726943, 0x796669746f4e65), // CirculateNotify
+        100 => Spelling(16, 0x72756769666e6f43, 0x7473657571655265), // ConfigureRequest
+        101 => Spelling(16, 0x74616c7563726943, 0x7473657571655265), // CirculateRequest
+        102 => Spelling(7, 0x796f7274736544, 0x0), // Destroy
+        103 => Spelling(13, 0x4e796f7274736544, 0x796669746f), // DestroyNotify
+        104 => Spelling(5, 0x7265746e45, 0x0), // Enter
+        105 => Spelling(6, 0x65736f707845, 0x0), // Expose
+        106 => Spelling(11, 0x746f4e7265746e45, 0x796669), // EnterNotify
+        107 => Spelling(11, 0x6e69577265746e45, 0x776f64), // EnterWindow
+        108 => Spelling(7, 0x6e497375636f46, 0x0), // FocusIn
+        109 => Spelling(8, 0x74754f7375636f46, 0x0), // FocusOut
+        110 => Spelling(4, 0x76617247, 0x0), // Grav
+        111 => Spelling(5, 0x7078457247, 0x0), // GrExp
+        112 => Spelling(13, 0x4e79746976617247, 0x796669746f), // GravityNotify
+        113 => Spelling(14, 0x7363696870617247, 0x65736f707845), // GraphicsExpose
+        114 => Spelling(3, 0x79654b, 0x0), // Key
+        115 => Spelling(5, 0x705579654b, 0x0), // KeyUp
+        116 => Spelling(6, 0x70616d79654b, 0x0), // Keymap
+        117 => Spelling(7, 0x6e776f4479654b, 0x0), // KeyDown
+        118 => Spelling(8, 0x737365725079654b, 0x0), // KeyPress
+        119 => Spelling(10, 0x61656c655279654b, 0x6573), // KeyRelease
+        120 => Spelling(12, 0x6f4e70616d79654b, 0x79666974), // KeymapNotify
+        121 => Spelling(5, 0x657661654c, 0x0), // Leave
+        122 => Spelling(11, 0x746f4e657661654c, 0x796669), // LeaveNotify
+        123 => Spelling(11, 0x6e6957657661654c, 0x776f64), // LeaveWindow
+        124 => Spelling(3, 0x70614d, 0x0), // Map
+        125 => Spelling(4, 0x6174654d, 0x0), // Meta
+        126 => Spelling(6, 0x6e6f69746f4d, 0x0), // Motion
+        127 => Spelling(6, 0x71655270614d, 0x0), // MapReq
+        128 => Spelling(7, 0x6567617373654d, 0x0), // Message
+        129 => Spelling(7, 0x676e697070614d, 0x0), // Mapping
+        130 => Spelling(9, 0x6669746f4e70614d, 0x79), // MapNotify
+        131 => Spelling(10, 0x657571655270614d, 0x7473), // MapRequest
+        132 => Spelling(10, 0x766f4d6573756f4d, 0x6465), // MouseMoved
+        133 => Spelling(12, 0x6f4e6e6f69746f4d, 0x79666974), // MotionNotify
+        134 => Spelling(13, 0x4e676e697070614d, 0x796669746f), // MappingNotify
+        135 => Spelling(5, 0x7078456f4e, 0x0), // NoExp
+        136 => Spelling(8, 0x65736f7078456f4e, 0x0), // NoExpose
+        137 => Spelling(4, 0x706f7250, 0x0), // Prop
+        138 => Spelling(8, 0x6465766f4d727450, 0x0), // PtrMoved
+        139 => Spelling(14, 0x79747265706f7250, 0x796669746f4e), // PropertyNotify
+        140 => Spelling(6, 0x716552736552, 0x0), // ResReq
+        141 => Spelling(8, 0x746e657261706552, 0x0), // Reparent
+        142 => Spelling(13, 0x6552657a69736552, 0x7473657571), // ResizeRequest
+        143 => Spelling(14, 0x746e657261706552, 0x796669746f4e), // ReparentNotify
+        144 => Spelling(5, 0x7466696853, 0x0), // Shift
+        145 => Spelling(6, 0x726c436c6553, 0x0), // SelClr
+        146 => Spelling(6, 0x7165526c6553, 0x0), // SelReq
+        147 => Spelling(6, 0x7463656c6553, 0x0), // Select
+        148 => Spelling(14, 0x6f697463656c6553, 0x7261656c436e), // SelectionClear
+        149 => Spelling(15, 0x6f697463656c6553, 0x796669746f4e6e), // SelectionNotify
+        150 => Spelling(16, 0x6f697463656c6553, 0x747365757165526e), // SelectionRequest
+        151 => Spelling(5, 0x70616d6e55, 0x0), // Unmap
+        152 => Spelling(11, 0x746f4e70616d6e55, 0x796669), // UnmapNotify
+        153 => Spelling(7, 0x656c6269736956, 0x0), // Visible
+        154 => Spelling(16, 0x696c696269736956, 0x796669746f4e7974), // VisibilityNotify
+        _ => Spelling(0, 0, 0),
+    }
 }

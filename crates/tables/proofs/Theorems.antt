@@ -4,17 +4,15 @@ use native.Mathlib.Omega.{arith}
 use mathlib.Core.Path.{_≡_, refl, sym, ap, _∙_}
 use mathlib.Core.List.{List, [], _∷_, _++_, map}
 use mathlib.Core.Bool.{true}
-use lib.Dec.{eqb}
 use lib.ListN.{length, take, drop, take-append-drop, length-append}
 use lib.Seq.{take-at}
-use borrow.Author.Tests.{eq-eqb}
 use Rattle.words.specs.Words.{wordBytes, zeros}
 use Rattle.words.proofs.Bools.{and-left, and-right, and-both}
 use Rattle.words.proofs.Laws.{zeros-add}
 use Rattle.words.proofs.Images.{bytes-zeros}
 use Rattle.model.specs.Lists.{same}
 use Rattle.model.specs.Tables.{Table}
-use Rattle.model.proofs.Sameness.{same-eq}
+use Rattle.model.proofs.Sameness.{same-eq, same-refl}
 use Rattle.tables.specs.Layout.{padded, joinedSections, offset, columns, capacities, tableLength, flat, headerOf, entriesOf, sectionsOf, image, encode}
 use Rattle.tables.specs.Reading.{decode}
 use Rattle.tables.specs.Fitting.{fitting}
@@ -22,10 +20,6 @@ use Rattle.tables.specs.Whole.{whole}
 use Rattle.tables.specs.Laws.{DecodeEncode, HoldsTable, WholeHolds, HoldsWhole, HoldsDecode, EncodeEmpty}
 use Rattle.tables.proofs.Images.{length-image}
 use Rattle.tables.proofs.Encoded as encoded
-
-same-refl : (xs : List ℕ) → same xs xs ≡ true
-same-refl [] = refl
-same-refl (x ∷ xs) = and-both (eqb x x) (same xs xs) (eq-eqb x x refl) (same-refl xs)
 
 pub decode-encode : DecodeEncode
 decode-encode t fit rest = encoded.decode-encode t fit rest

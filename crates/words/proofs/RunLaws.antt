@@ -172,6 +172,11 @@ module _ {A : Type 0} where
   getD-run f s (suc n) zero d h = ap f (sym (add-zero s))
   getD-run f s (suc n) (suc i) d h = getD-run f (suc s) n i d (omega arith) ∙ ap f (suc-add s i ∙ sym (add-suc s i))
 
+  -- two functions whose runs are the same agree at each number
+  pub run-at : (f g : ℕ → A) (s n : ℕ) (d : A) → run f s n ≡ run g s n → (i : ℕ) → i < n → f (s + i) ≡ g (s + i)
+  run-at f g s n d e i h =
+      sym (getD-run f s n i d h) ∙ ap (λ (r : List A). getD r i d) e ∙ getD-run g s n i d h
+
   pub run-append : (f : ℕ → A) (s n m : ℕ) → run f s (n + m) ≡ run f s n ++ run f (s + n) m
   unfolding run
   run-append f s zero m = rw (zero-add, add-zero)

@@ -1,14 +1,14 @@
 -- Laws of lists that grow at the end: of texts that are joined, of elements that pass a test, of tests of all.
-use Prim.Native.Nat.{ℕ, zero, suc, _+_, _<_}
+use Prim.Native.Nat.{ℕ, zero, suc, _+_}
 use native.Mathlib.Omega.{arith}
 use mathlib.Core.Path.{_≡_, refl, sym, ap, _∙_}
 use mathlib.Core.List.{List, [], _∷_, _++_, append-assoc}
 use mathlib.Core.Bool.{Bool, true, false, cond, _&&_, and-true, and-assoc}
 use lib.Dec.{ltb}
 use borrow.Author.Tests.{lt-ltb}
-use lib.ListN.{length, getD}
+use lib.ListN.{length}
 use Rattle.words.specs.Runs.{run, every}
-use Rattle.words.proofs.RunLaws.{run-last, run-more, getD-run, length-run}
+use Rattle.words.proofs.RunLaws.{run-last, run-more, length-run}
 use Rattle.model.specs.Lists.{all, those}
 use Rattle.model.specs.Canonical.{joinedBy, each}
 use Rattle.writing.specs.Overlay.{separator}
@@ -37,11 +37,6 @@ module _ {A : Type 0} where
   pub all-more : (test : A → Bool) (xs : List A) (x : A) → all test (xs ++ (x ∷ [])) ≡ (all test xs && test x)
   all-more test [] x = and-true (test x)
   all-more test (y ∷ ys) x = rw (all-more test ys x) (sym (and-assoc (test y) (all test ys) (test x)))
-
-  -- two functions whose runs are the same agree at each number
-  pub run-at : (f g : ℕ → A) (s n : ℕ) (d : A) → run f s n ≡ run g s n → (i : ℕ) → i < n → f (s + i) ≡ g (s + i)
-  run-at f g s n d e i h =
-      sym (getD-run f s n i d h) ∙ ap (λ (r : List A). getD r i d) e ∙ getD-run g s n i d h
 
 -- a test of every number below n
 pub all-every : (test : ℕ → Bool) (n : ℕ) → all test (run (λ i. i) 0 n) ≡ every test 0 n

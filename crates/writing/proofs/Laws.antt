@@ -59,7 +59,7 @@ pub put-as : {o p : List ℕ} {i j : ℕ} {a b : List ℕ} → a ≡ b → Put o
 put-as e x = rw (← e) x
 
 -- one more element of a list
-pub take-more : (l : List ℕ) (i : ℕ) → i < length l → take (i + 1) l ≡ take i l ++ (getD l i 0 ∷ [])
+take-more : (l : List ℕ) (i : ℕ) → i < length l → take (i + 1) l ≡ take i l ++ (getD l i 0 ∷ [])
 take-more l i h = rw add-one (take-suc l i 0 h)
 
 -- one more byte of a part

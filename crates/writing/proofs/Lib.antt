@@ -1,3 +1,4 @@
 pub mod Laws
 pub mod Digits
 pub mod Joined
+pub mod Unpacked

@@ -1,8 +1,10 @@
 -- `lookup::directive_of` meets its contract. Assumes nothing.
+use Prim.Native.Nat.{_-_}
 use native.Mathlib.Omega.{arith}
 use mathlib.Core.Path.{sym, ap, _∙_}
 use mathlib.Core.Option.{none, some}
 use Rattle.model.specs.declared.events.Directive.{Directive}
+use Rattle.names.specs.Places.{directivesAt, noneAt}
 use Rattle.lookup.specs.Find.{meaningOf, directiveMeaning}
 use Rattle.lookup.proofs.Lookup.{found-within}
 use Rattle.lookup.proofs.Groups.{directive-found}
@@ -18,7 +20,7 @@ enum-known-i c = search needs
 
 sub-directive-at : tie.Need-sub-directive-at
 sub-directive-at c =
-    omega (arith, found-within 3 150 (c .before .before .before .before .before .args .line .now) (c .before .i .given .0 .0) (sym (c .before .before .before .find .ensures) ∙ c .before .i .given .1))
+    omega (arith, found-within (noneAt - directivesAt) directivesAt (c .before .before .before .before .before .args .line .now) (c .before .i .given .0 .0) (sym (c .before .before .before .find .ensures) ∙ c .before .i .given .1))
 
 directive-at-requires : tie.Need-directive-at-requires
 directive-at-requires c κs = search needs

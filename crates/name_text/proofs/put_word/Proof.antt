@@ -8,8 +8,9 @@ use Rattle.model.specs.Lists.{bytes}
 use Rattle.model.specs.Named.{markedKeysym}
 use Rattle.model.specs.Canonical.{hexadecimal, longName}
 use Rattle.names.specs.Table.{nameRow}
-use Rattle.name_text.proofs.LongNames.{long-name, short-name}
-use mathlib.Core.Path.{_≡_, sym, ap, _∙_}
+use Rattle.names.proofs.Written.{long-name}
+use Rattle.name_text.proofs.LongNames.{short-name}
+use mathlib.Core.Path.{_≡_, ap, _∙_}
 use Rattle.writing.proofs.Laws.{put-as}
 use Rattle.name_text.specs.Forms.{formWord, keysymAt}
 use Rattle.name_text.proofs.put_word.Statement.{statement}
@@ -32,7 +33,7 @@ unfolding formWord
 returns c =
     let j = c .before .before .before .before .before .before .before .args .j in
     let h : j / 2 < 4 = omega (arith, c .before .before .before .before .before .if1 .taken) in
-    let n : nameRow (c .before .before .before .long-place .result) ≡ longName (j / 2) = ap nameRow (c .before .before .before .long-place .ensures .0) ∙ sym (long-name (j / 2) h) in
+    let n : nameRow (c .before .before .before .long-place .result) ≡ longName (j / 2) = ap nameRow (c .before .before .before .long-place .ensures .0) ∙ long-name (j / 2) h in
     let p = put-as n (c .before .before .put-name .ensures .0) in
     (rw (lt-ltb _ _ (c .before .before .before .before .before .if1 .taken)) p, omega (arith, p .next, short-name (j / 2) h))
 

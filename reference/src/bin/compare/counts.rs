@@ -57,6 +57,8 @@ pub struct Counts {
     pub compiled: Numbers,
     /// Of these, texts with a name of R-1 in a line that is in the grammar.
     pub texts_with_names: u64,
+    /// Of all, texts of a name of a modifier or event type, or of a word next to one.
+    pub texts_of_words: u64,
     pub merged: Numbers,
     pub written: Numbers,
     /// Questions for counts, names and parameters.
@@ -83,6 +85,7 @@ impl AddAssign<&Counts> for Counts {
         self.cases += other.cases;
         self.compiled += &other.compiled;
         self.texts_with_names += other.texts_with_names;
+        self.texts_of_words += other.texts_of_words;
         self.merged += &other.merged;
         self.written += &other.written;
         self.asked += &other.asked;
@@ -110,6 +113,7 @@ impl Counts {
             && self.asked.each_of(&[0, 1, 12, 16])
             && self.matched.each_of(&[0, 1, 12, 13, 14, 18])
             && self.texts_with_names >= 300_000
+            && self.texts_of_words >= 300_000
             && self.merged.total() >= 20_000
             && self.written.total() >= 20_000
             && self.matched.total() >= 3_000_000
@@ -129,6 +133,7 @@ impl fmt::Display for Counts {
         writeln!(out, "cases           {}", self.cases)?;
         writeln!(out, "compiled texts  {}", self.compiled)?;
         writeln!(out, "  with names    {}", self.texts_with_names)?;
+        writeln!(out, "  of words      {}", self.texts_of_words)?;
         writeln!(out, "merges          {}", self.merged)?;
         writeln!(out, "writes          {}", self.written)?;
         writeln!(out, "questions       {}", self.asked)?;

@@ -18,6 +18,8 @@ mod run;
 mod tables;
 #[cfg(archive)]
 mod vectors;
+#[cfg(archive)]
+mod words;
 
 use std::process::ExitCode;
 

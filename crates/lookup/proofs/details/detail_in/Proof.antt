@@ -15,10 +15,6 @@ find-requires c κs = search needs
 enum-known-i : tie.Need-enum-known-i
 enum-known-i c = search needs
 
-sub-detail-value : tie.Need-sub-detail-value
-sub-detail-value c =
-    omega (arith, found-within (c .before .before .before .before .before .args .to - c .before .before .before .before .before .args .from) (c .before .before .before .before .before .args .from) (c .before .before .before .before .before .args .w .now) (c .before .i .given .0 .0) (sym (c .before .before .before .find .ensures) ∙ c .before .i .given .1))
-
 detail-value-requires : tie.Need-detail-value-requires
 detail-value-requires c κs =
     omega (arith, found-within (c .before .before .before .before .before .args .to - c .before .before .before .before .before .args .from) (c .before .before .before .before .before .args .from) (c .before .before .before .before .before .args .w .now) (c .before .i .given .0 .0) (sym (c .before .before .before .find .ensures) ∙ c .before .i .given .1))
@@ -42,7 +38,6 @@ detail-in-spec =
     (tie.spec
     find-requires
     enum-known-i
-    sub-detail-value
     detail-value-requires
     enum-told
     returns
