@@ -5,13 +5,13 @@ use mathlib.Core.Path.{_≡_, ap}
 use mathlib.Core.List.{List, _∷_, _++_, append-assoc}
 use borrow.Author.Tests.{le-leb, lt-leb, ne-eqb}
 use Rattle.model.specs.Lists.{bytes}
-use Rattle.model.specs.Canonical.{valueText, hexadecimal}
+use Rattle.model.specs.Canonical.{keysymText, valueText}
 use Rattle.names.specs.Places.{buttonsAt, motionsAt, modesAt, requestsAt}
 use Rattle.event_text.specs.Named.{placeOrNumber}
 use Rattle.event_text.proofs.Named.{button-name, motion-name, mode-name, request-name}
 
 module _ (code v : ℕ) where
-  pub value-key : 2 ≤ code → code ≤ 3 → hexadecimal v ≡ valueText code v
+  pub value-key : 2 ≤ code → code ≤ 3 → keysymText v ≡ valueText code v
   unfolding valueText
   value-key h k = rw (le-leb 2 code h, le-leb code 3 k)
 

@@ -4,6 +4,7 @@ use model::events::KeptEvent;
 use names::places;
 use names::table;
 use writing::bytes;
+use writing::key_names;
 use writing::numbers;
 ghost use mathlib.Core.Path.{_≡_};
 ghost use mathlib.Core.Bool.{true};
@@ -62,7 +63,7 @@ fn put_value(out: &mut [u8], at: usize, code: u8, v: u32) -> usize
     ensures { λ r. ⌜ (Put (now (out .entry)) (now (out .exit)) at r (valueText code v)) × (r ≤ at + longestName) ⌝ }
 {
     if code <= 3 {
-        return numbers::put_hexadecimal(out, at, v);
+        return key_names::put_keysym(out, at, v);
     }
     if code <= 5 {
         return put_named(out, at, v, 1, 5, table::BUTTONS);

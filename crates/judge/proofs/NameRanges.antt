@@ -13,7 +13,8 @@ use Rattle.model.specs.Limits.{keysymLimit, smallDetailLimit}
 use Rattle.model.specs.Bytes.{inRange, byteAt, isDigit, isCode}
 use Rattle.model.specs.Codes.{isKey, isButton, motionNotify, hasMode, mappingNotify, hasAtom}
 use Rattle.model.specs.Names.{Entry, firstMeaning, modifierEntries, modifierNamed, protocolEntries, synonymEntries, abbreviationEntries, typeEntries, typeNamed}
-use Rattle.model.specs.Details.{digitsFrom, withinLimit, numberIn, startsHexadecimal, keysymEntries, keyDetail, buttonEntries, motionEntries, modeEntries, requestEntries, leadingZero, smallNumber, nameOrNumber, detailNamed}
+use Rattle.model.specs.Latin1.{latin1Entries}
+use Rattle.model.specs.Details.{digitsFrom, withinLimit, numberIn, startsHexadecimal, keysymEntries, keysymNames, keyDetail, buttonEntries, motionEntries, modeEntries, requestEntries, leadingZero, smallNumber, nameOrNumber, detailNamed}
 use Rattle.model.specs.declared.events.Detail.{Detail}
 use Rattle.model.specs.declared.names.Added.{Added}
 use Rattle.model.specs.declared.names.EventType.{EventType}
@@ -132,8 +133,8 @@ value-passes : (es : List (Entry DetailRead)) (word : List ℕ)
     → readPasses (firstMeaning es DetailRead.Unknown word) ≡ true
 value-passes es word e = named-passes readPasses es DetailRead.Unknown word refl e
 
-keysyms-pass : all (λ (e : Entry DetailRead). readPasses (e .meaning)) keysymEntries ≡ true
-unfolding keysymEntries
+keysyms-pass : all (λ (e : Entry DetailRead). readPasses (e .meaning)) keysymNames ≡ true
+unfolding keysymNames keysymEntries latin1Entries
 keysyms-pass = refl
 
 pub key-passes : (word : List ℕ) → byteAt word 0 < 256 → readPasses (keyDetail word) ≡ true
@@ -144,7 +145,7 @@ key-passes word h =
     (cond-passes readPasses (startsHexadecimal word) _ _ (number-passes 16 keysymLimit (drop 2 word) (omega arith))
     (cond-passes readPasses (isCode (byteAt word 0) "0") _ _ (number-passes 8 keysymLimit word (omega arith))
     (cond-passes readPasses (isDigit (byteAt word 0)) _ _ (number-passes 10 keysymLimit word (omega arith))
-    (value-passes keysymEntries word keysyms-pass))))
+    (value-passes keysymNames word keysyms-pass))))
 
 small-passes : (es : List (Entry DetailRead)) (word : List ℕ)
     → all (λ (e : Entry DetailRead). readPasses (e .meaning)) es ≡ true → readPasses (nameOrNumber es word) ≡ true

@@ -12,7 +12,8 @@ use Rattle.model.specs.Lists.{bytes, same}
 use Rattle.model.specs.Bytes.{byteAt}
 use Rattle.model.proofs.Sameness.{same-eq}
 use Rattle.model.specs.Names.{Entry, firstMeaning, modifierNamed, typeNamed, modifierEntries, typeEntries}
-use Rattle.model.specs.Details.{keysymEntries, buttonEntries, motionEntries, modeEntries, requestEntries, nameOrNumber}
+use Rattle.model.specs.Latin1.{latin1Entries}
+use Rattle.model.specs.Details.{keysymEntries, keysymNames, buttonEntries, motionEntries, modeEntries, requestEntries, nameOrNumber}
 use Rattle.model.specs.Lines.{directiveOf}
 use Rattle.model.specs.declared.names.DetailRead.{DetailRead}
 use Rattle.model.specs.declared.names.TypeName.{TypeName}
@@ -21,10 +22,11 @@ use Rattle.names.specs.Places.{keysymsAt, buttonsAt, motionsAt, modesAt, reques
 use Rattle.names.specs.Groups.{begins, groupOf, modifierGroup, typeGroup}
 use Rattle.names.specs.declared.groups.Group.{Group}
 use Rattle.names.specs.Table.{nameRow, allNames, otherNames, directiveEntries, detailValues}
+use Rattle.keysyms.specs.Rule.{latin1Named}
 use Rattle.lookup.specs.Find.{findFrom, meaningOf, modifierMeaning, typeMeaning, detailMeaning, directiveMeaning, detailFound, foundOrNumber}
 use Rattle.lookup.specs.Rule.{HoldsGroup, Grouped, TableHolds}
 use Rattle.lookup.specs.declared.find.Found.{Found}
-use Rattle.lookup.proofs.Lookup.{found-within, found-named}
+use Rattle.lookup.proofs.Lookup.{found-within, named-append, found-named}
 use Rattle.lookup.proofs.Grouped.{modifiers-grouped, types-grouped}
 
 pub table-holds : TableHolds
@@ -109,9 +111,12 @@ module _ (w : List ℕ) (b : ℕ) (g : Group) (first : b ≡ byteAt w 0) where
     type-place = place typeMeaning TypeName.Unknown _ _ _ typeEntries types-grouped w b g first group
 
 module _ (w : List ℕ) where
-  pub keysym-found : detailFound keysymsAt buttonsAt w ≡ firstMeaning keysymEntries DetailRead.Unknown w
-  unfolding detailFound
-  keysym-found = found-named detailMeaning DetailRead.Unknown w _ _ keysymEntries (table-holds .keysyms)
+  -- a keysym's name that is not found there is looked for among the header's
+  pub keysym-found : meaningOf detailMeaning (latin1Named w) (findFrom (buttonsAt - keysymsAt) keysymsAt w) ≡ firstMeaning keysymNames DetailRead.Unknown w
+  unfolding keysymNames latin1Named
+  keysym-found =
+      found-named detailMeaning (latin1Named w) w _ _ keysymEntries (table-holds .keysyms)
+      ∙ sym (named-append keysymEntries latin1Entries DetailRead.Unknown w)
 
   pub button-found : detailFound buttonsAt motionsAt w ≡ firstMeaning buttonEntries DetailRead.Unknown w
   unfolding detailFound

@@ -2,9 +2,9 @@
 use Prim.Native.Nat.{ℕ, zero, suc, _+_, _-_, _≤_, _<_}
 use native.Mathlib.Numerals.{add-one}
 use native.Mathlib.Omega.{arith}
-use mathlib.Core.Path.{_≡_, refl, sym, _∙_}
+use mathlib.Core.Path.{_≡_, refl, sym, ap, _∙_}
 use mathlib.Core.Bool.{Bool, true, false, cond}
-use mathlib.Core.List.{List, [], _∷_}
+use mathlib.Core.List.{List, [], _∷_, _++_}
 use Rattle.model.specs.Lists.{same, bytes}
 use Rattle.model.specs.Names.{Entry, firstMeaning}
 use Rattle.names.specs.Table.{nameRow, namesIn, meaningsIn}
@@ -41,6 +41,13 @@ found-within (suc n) i w k e = go (same w (nameRow i)) refl (found-within n (suc
     go : (b : Bool) → same w (nameRow i) ≡ b → (findFrom n (suc i) w ≡ Found.At k → (suc i ≤ k) × (k < suc i + n)) → (i ≤ k) × (k < i + suc n)
     go true q ih = let z : i ≡ k = cc in omega arith
     go false q ih = let z = ih (sym (rw q) ∙ e) in omega arith
+
+-- ---- Entries after others
+
+module _ {A : Type 0} where
+  pub named-append : (es fs : List (Entry A)) (other : A) (w : List ℕ) → firstMeaning (es ++ fs) other w ≡ firstMeaning es (firstMeaning fs other w) w
+  named-append [] fs other w = refl
+  named-append (e ∷ es) fs other w = ap (λ (a : A). cond (same w (bytes (e .name))) (e .meaning) a) (named-append es fs other w)
 
 -- ---- A group of entries
 

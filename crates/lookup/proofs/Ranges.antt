@@ -13,7 +13,8 @@ use Rattle.model.specs.Bytes.{inRange, isDigit}
 use Rattle.model.specs.Limits.{keysymLimit, smallDetailLimit}
 use Rattle.model.specs.Codes.{isKey, isButton, motionNotify, hasMode, mappingNotify, hasAtom}
 use Rattle.model.specs.Names.{Entry, firstMeaning, modifierNamed, typeNamed, modifierEntries, typeEntries, protocolEntries, synonymEntries, abbreviationEntries}
-use Rattle.model.specs.Details.{digitsFrom, withinLimit, numberIn, startsHexadecimal, leadingZero, keyDetail, smallNumber, nameOrNumber, detailNamed, keysymEntries, buttonEntries, motionEntries, modeEntries, requestEntries}
+use Rattle.model.specs.Latin1.{latin1Entries}
+use Rattle.model.specs.Details.{digitsFrom, withinLimit, numberIn, startsHexadecimal, leadingZero, keyDetail, smallNumber, nameOrNumber, detailNamed, keysymEntries, keysymNames, buttonEntries, motionEntries, modeEntries, requestEntries}
 use Rattle.model.specs.declared.events.Detail.{Detail}
 use Rattle.model.specs.declared.names.Added.{Added}
 use Rattle.model.specs.declared.names.TypeName.{TypeName}
@@ -111,8 +112,8 @@ unfolding numberIn
 number-most base limit [] = refl
 number-most base limit (b ∷ bs) = within-most limit (digitsFrom base 0 (b ∷ bs))
 
-keysyms-test : all (passes (atMost keysymLimit)) (meaningsIn keysymEntries) ≡ true
-unfolding keysymEntries
+keysyms-test : all (passes (atMost keysymLimit)) (meaningsIn keysymNames) ≡ true
+unfolding keysymNames keysymEntries latin1Entries
 keysyms-test = refl
 
 buttons-test : all (passes (λ (v : ℕ). inRange 1 v 5)) (meaningsIn buttonEntries) ≡ true
@@ -140,7 +141,7 @@ key-most w h =
     (cond-passes t (startsHexadecimal w) _ _ (number-most 16 keysymLimit (drop 2 w))
     (cond-passes t (eqb (getD w 0 0) 48) _ _ (number-most 8 keysymLimit w)
     (cond-passes t (isDigit (getD w 0 0)) _ _ (number-most 10 keysymLimit w)
-    (named-passes t keysymEntries DetailRead.Unknown w keysyms-test refl))))
+    (named-passes t keysymNames DetailRead.Unknown w keysyms-test refl))))
 
 small-most : (es : List (Entry DetailRead)) (w : List ℕ) → all (passes (atMost smallDetailLimit)) (meaningsIn es) ≡ true
     → passes (atMost smallDetailLimit) (nameOrNumber es w) ≡ true

@@ -1,13 +1,16 @@
 // What a written detail stands for: a name of the type's group, or a number.
 use crate::find;
 use crate::find::Found;
+use keysyms::search::latin1_named;
 use model::names::DetailRead;
 use names::meanings;
 use names::table;
 use numerals::number;
 ghost use mathlib.Core.Path.{_≡_};
 ghost use Prim.Native.Nat.{_≤_};
-ghost use Rattle.model.specs.Details.{keyDetail};
+ghost use Rattle.model.specs.Names.{firstMeaning};
+ghost use Rattle.model.specs.Details.{keysymNames, keyDetail};
+ghost use Rattle.model.specs.declared.names.DetailRead.{DetailRead};
 ghost use Rattle.names.specs.Places.{directivesAt};
 ghost use Rattle.lookup.specs.Find.{detailFound, foundOrNumber};
 
@@ -21,6 +24,16 @@ pub fn detail_in(w: &[u8], from: usize, to: usize) -> DetailRead
     match find::find(w, from, to) {
         Found::At(i) => DetailRead::Value(meanings::detail_value(i)),
         Found::Nothing => DetailRead::Unknown,
+    }
+}
+
+// A keysym's name: one of the table of names, else one of the header's.
+fn keysym_named(w: &[u8]) -> DetailRead
+    ensures { λ r. ⌜ r ≡ firstMeaning keysymNames DetailRead.Unknown (now (w .entry)) ⌝ }
+{
+    match find::find(w, table::KEYSYMS, table::BUTTONS) {
+        Found::At(i) => DetailRead::Value(meanings::detail_value(i)),
+        Found::Nothing => latin1_named(w),
     }
 }
 
@@ -41,7 +54,7 @@ pub fn key_detail(w: &[u8]) -> DetailRead
     if number::in_range(b'0', first, b'9') {
         return number::number_in(w, 10, KEYSYM_LIMIT);
     }
-    detail_in(w, table::KEYSYMS, table::BUTTONS)
+    keysym_named(w)
 }
 
 // A small number, or a name in a range of the table.

@@ -7,10 +7,10 @@ use Prim.Native.Nat.{ℕ, zero, suc, _+_, _/_, _%_}
 use mathlib.Core.Bool.{Bool, true, false, cond, not, _&&_, _||_}
 use mathlib.Core.List.{List, [], _∷_, _++_}
 use lib.Dec.{eqb, ltb}
-use Rattle.model.specs.Lists.{bytes, all, those}
+use Rattle.model.specs.Lists.{bytes, isBefore, all, those}
 use Rattle.model.specs.Codes.{isKey, isButton, motionNotify, hasMode, takesModifiers}
-use Rattle.model.specs.Names.{Entry, nameOf, metaName, altName, hyperName, superName, modifierEntries, protocolEntries}
-use Rattle.model.specs.Details.{buttonEntries, motionEntries, modeEntries, requestEntries}
+use Rattle.model.specs.Names.{Entry, nameOf, namesWith, metaName, altName, hyperName, superName, modifierEntries, protocolEntries}
+use Rattle.model.specs.Details.{keysymNames, buttonEntries, motionEntries, modeEntries, requestEntries}
 use Rattle.model.specs.Modifiers.{bits, isBit, isMapped, bit, asksBit, isTestable}
 use Rattle.model.specs.Named.{formBit, markedKeysym, isListed, keptAsWritten}
 use Rattle.model.specs.Tables.{Call, Production, Table}
@@ -45,7 +45,7 @@ digitsIn base zero v = []
 digitsIn base (suc fuel) v =
     cond (ltb v base) (digit v ∷ []) (digitsIn base fuel (v / base) ++ (digit (v % base) ∷ []))
 
--- "keysyms as `0x` and lower-case hexadecimal": a keysym has at most eight digits
+-- "`0x` and lower-case hexadecimal": a keysym has at most eight digits
 unfoldable pub hexadecimal : ℕ → List ℕ
 hexadecimal v = bytes "0x" ++ digitsIn 16 8 v
 
@@ -93,7 +93,7 @@ longName n = nameOf (isMapped n) [] modifierEntries
 abbrev pub nameTexts : KeptEvent → ℕ → List (List ℕ)
 nameTexts e n = formTexts (bit (formBit false n) (e .names)) (bit (formBit true n) (e .names)) (longName n)
 
--- "`@` with hexadecimal keysyms"
+-- "`@` with hexadecimal keysyms"; R-4: "after `@` it keeps hexadecimal"
 abbrev pub keysymTexts : ℕ → List (List ℕ)
 keysymTexts s = formTexts (isListed false s) (isListed true s) (bytes "@" ++ hexadecimal (markedKeysym s))
 
@@ -139,10 +139,24 @@ isValue v DetailRead.NotBuilt = false
 abbrev pub nameOrDecimal : List (Entry DetailRead) → ℕ → List ℕ
 nameOrDecimal entries v = nameOf (isValue v) (decimal v) entries
 
+-- the first of some names in byte order, `least` among them
+unfoldable pub firstInOrder : (least : List ℕ) → List (List ℕ) → List ℕ
+firstInOrder least [] = least
+firstInOrder least (n ∷ ns) = firstInOrder (cond (isBefore n least) n least) ns
+
+abbrev pub firstNameOr : (other : List ℕ) → List (List ℕ) → List ℕ
+firstNameOr other [] = other
+firstNameOr other (n ∷ ns) = firstInOrder n ns
+
+-- R-4: "For a key detail the writer gives the name where there is one, the first in byte order where two share a value, and
+-- hexadecimal otherwise"
+unfoldable pub keysymText : ℕ → List ℕ
+keysymText v = firstNameOr (hexadecimal v) (namesWith (isValue v) keysymNames)
+
 -- choice: a value on a type that takes no detail is written as one of `<Mapping>` is, and a value out of a type's range in decimal
 unfoldable pub valueText : ℕ → ℕ → List ℕ
 valueText code v =
-    cond (isKey code) (hexadecimal v)
+    cond (isKey code) (keysymText v)
     (cond (isButton code) (nameOrDecimal buttonEntries v)
     (cond (eqb code motionNotify) (nameOrDecimal motionEntries v)
     (cond (hasMode code) (nameOrDecimal modeEntries v) (nameOrDecimal requestEntries v))))

@@ -1,8 +1,7 @@
 -- Document 01, "The text", "Details": what a written detail stands for.
 use Prim.Native.Nat.{ℕ, _+_, _-_, _*_}
-use Prim.Native.String.{String}
 use mathlib.Core.Bool.{Bool, cond, not, _&&_, _||_}
-use mathlib.Core.List.{List, [], _∷_}
+use mathlib.Core.List.{List, [], _∷_, _++_}
 use mathlib.Core.Option.{Option, none, some}
 use lib.Dec.{eqb, ltb}
 use lib.ListN.{length, drop}
@@ -10,7 +9,8 @@ use Rattle.model.specs.Limits.{keysymLimit, smallDetailLimit}
 use Rattle.model.specs.Numbers.{noRefusal, unknownName, badNumber, notBuilt}
 use Rattle.model.specs.Bytes.{isCode, inRange, byteAt, isDigit}
 use Rattle.model.specs.Codes.{isKey, isButton, motionNotify, hasMode, mappingNotify, hasAtom}
-use Rattle.model.specs.Names.{Entry, firstMeaning}
+use Rattle.model.specs.Names.{Entry, firstMeaning, value}
+use Rattle.model.specs.Latin1.{latin1Entries}
 use Rattle.model.specs.declared.names.DetailRead.{DetailRead}
 
 -- ---- The number of each case
@@ -49,9 +49,6 @@ numberIn base limit (b ∷ bs) = withinLimit limit (digitsFrom base 0 (b ∷ bs)
 
 -- ---- Keys
 
-abbrev pub value : String → ℕ → Entry DetailRead
-value n v = record { name = n; meaning = DetailRead.Value v }
-
 -- "a name from space, comma, colon, .. F1..F12 (values from keysymdef.h)"
 unfoldable pub keysymEntries : List (Entry DetailRead)
 keysymEntries =
@@ -82,18 +79,22 @@ keysymEntries =
     ∷ value "F12" 0xffc9
     ∷ []
 
+-- R-4: the header's names "beside the names we have"; those in both lists stand for the same in both
+unfoldable pub keysymNames : List (Entry DetailRead)
+keysymNames = keysymEntries ++ latin1Entries
+
 abbrev pub startsHexadecimal : List ℕ → Bool
 startsHexadecimal word = isCode (byteAt word 0) "0" && (isCode (byteAt word 1) "x" || isCode (byteAt word 1) "X")
 
 -- "one character stands for its Latin-1 code, digits too; `0x` or `0X` hexadecimal, another leading 0 octal, else decimal, up
--- to 0x1FFFFFFF; or a name"
+-- to 0x1FFFFFFF; or a name"; R-4: "A name not found is still 5"
 unfoldable pub keyDetail : List ℕ → DetailRead
 keyDetail word =
     cond (eqb (length word) 1) (DetailRead.Value (byteAt word 0))
     (cond (startsHexadecimal word) (numberIn 16 keysymLimit (drop 2 word))
     (cond (isCode (byteAt word 0) "0") (numberIn 8 keysymLimit word)
     (cond (isDigit (byteAt word 0)) (numberIn 10 keysymLimit word)
-    (firstMeaning keysymEntries DetailRead.Unknown word))))
+    (firstMeaning keysymNames DetailRead.Unknown word))))
 
 -- ---- Other events
 

@@ -5,6 +5,7 @@ pub mod Bytes
 pub mod Lines
 pub mod Names
 pub mod Codes
+pub mod Latin1
 pub mod Details
 pub mod Events
 pub mod Calls

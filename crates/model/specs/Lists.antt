@@ -5,7 +5,7 @@ use Prim.Native.String.{String}
 use mathlib.Core.Bool.{Bool, true, false, cond, _&&_, _||_}
 use mathlib.Core.List.{List, [], _∷_}
 use mathlib.Core.Option.{Option, none, some}
-use lib.Dec.{eqb}
+use lib.Dec.{eqb, ltb}
 use lib.ListN.{take, drop}
 
 -- the bytes of a text in ISO Latin-1
@@ -19,6 +19,13 @@ same [] [] = true
 same [] (y ∷ ys) = false
 same (x ∷ xs) [] = false
 same (x ∷ xs) (y ∷ ys) = eqb x y && same xs ys
+
+-- one list of bytes stands before another in byte order: the first byte in which they differ decides, else the shorter is first
+unfoldable pub isBefore : List ℕ → List ℕ → Bool
+isBefore [] [] = false
+isBefore [] (y ∷ ys) = true
+isBefore (x ∷ xs) [] = false
+isBefore (x ∷ xs) (y ∷ ys) = cond (eqb x y) (isBefore xs ys) (ltb x y)
 
 -- the bytes from start up to end
 abbrev pub part : List ℕ → ℕ → ℕ → List ℕ

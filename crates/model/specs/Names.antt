@@ -1,4 +1,4 @@
--- Document 01, "The text": the names of modifiers and event types. "Names are case-sensitive."
+-- Document 01, "The text": the names of modifiers and event types, and what a name of any kind is. "Names are case-sensitive."
 use Prim.Native.Nat.{ℕ}
 use Prim.Native.String.{String}
 use mathlib.Core.Bool.{Bool, cond}
@@ -9,6 +9,7 @@ use Rattle.model.specs.declared.events.Detail.{Detail}
 use Rattle.model.specs.declared.names.Added.{Added}
 use Rattle.model.specs.declared.names.TypeName.{TypeName}
 use Rattle.model.specs.declared.names.ModifierName.{ModifierName}
+use Rattle.model.specs.declared.names.DetailRead.{DetailRead}
 
 -- a name and what it stands for
 pub record Entry (A : Type 0) : Type 0 where
@@ -25,6 +26,15 @@ module _ {A : Type 0} where
   abbrev pub nameOf : (A → Bool) → List ℕ → List (Entry A) → List ℕ
   nameOf test other [] = other
   nameOf test other (e ∷ es) = cond (test (e .meaning)) (bytes (e .name)) (nameOf test other es)
+
+  -- the names of all entries whose meaning passes the test
+  unfoldable pub namesWith : (A → Bool) → List (Entry A) → List (List ℕ)
+  namesWith test [] = []
+  namesWith test (e ∷ es) = let rest = namesWith test es in cond (test (e .meaning)) (bytes (e .name) ∷ rest) rest
+
+-- a detail's name and its value
+abbrev pub value : String → ℕ → Entry DetailRead
+value n v = record { name = n; meaning = DetailRead.Value v }
 
 -- ---- Modifiers
 

@@ -23,7 +23,8 @@ use Rattle.readout.proofs.ReadOut.{reads-fitting}
 use Rattle.model.specs.Bytes.{isAllowed, firstBadByte, isBlank, isDigit, isLetter, belongs, runEnd, skip}
 use Rattle.model.specs.Lines.{lineEnd, lineAt, isBlankLine, directiveOf, directiveAt}
 use Rattle.model.specs.Names.{modifierEntries, modifierNamed, protocolEntries, synonymEntries, abbreviationEntries, typeEntries, typeNamed}
-use Rattle.model.specs.Details.{digitValue, digitsFrom, numberIn, keysymEntries, keyDetail, buttonEntries, motionEntries, modeEntries, requestEntries, smallNumber, nameOrNumber, detailNamed}
+use Rattle.model.specs.Latin1.{latin1Entries}
+use Rattle.model.specs.Details.{digitValue, digitsFrom, numberIn, keysymEntries, keysymNames, keyDetail, buttonEntries, motionEntries, modeEntries, requestEntries, smallNumber, nameOrNumber, detailNamed}
 use Rattle.model.specs.Events.{keysymFrom, nameFrom, modifierNameAt, modifierFrom, modifierAt, modifiersFrom, leadColon, leadFrom, leadAt, listOf, typeFrom, typeRun, typeName, typeAt, countClose, countPlus, countRun, countDigits, countFrom, countAt, plainEventAt, markedKey, keyAt, keysFrom, keySequenceAt, eventsFrom, eventsAt, afterEventFrom, afterEventAt, leftFrom, leftSide}
 use Rattle.model.specs.Calls.{parameterEnd, quotedFrom, unquotedFrom, parameterFrom, parameterAt, parametersFrom, parametersPast, parametersAt, callNameFrom, callFrom, callAt, callsFrom, rightSide}
 use Rattle.model.specs.Modifiers.{mask, listsSet, listsClear, asksSet, asksClear, setMask, clearMask, keepsClause, stateMeets, noStateMeets}
@@ -54,7 +55,7 @@ written x = ofOutcome (x .text) (compiled (x .text))
 
 -- every text of the table, compiled
 computed : map written readExamples ≡ map (λ (x : ReadExample). some x) readExamples
-unfolding isAllowed firstBadByte isBlank isDigit isLetter belongs runEnd skip lineEnd lineAt isBlankLine directiveOf directiveAt modifierEntries modifierNamed protocolEntries synonymEntries abbreviationEntries typeEntries typeNamed digitValue digitsFrom numberIn keysymEntries keyDetail buttonEntries motionEntries modeEntries requestEntries smallNumber nameOrNumber detailNamed keysymFrom nameFrom modifierNameAt modifierFrom modifierAt modifiersFrom leadColon leadFrom leadAt listOf typeFrom typeRun typeName typeAt countClose countPlus countRun countDigits countFrom countAt plainEventAt markedKey keyAt keysFrom keySequenceAt eventsFrom eventsAt afterEventFrom afterEventAt leftFrom leftSide parameterEnd quotedFrom unquotedFrom parameterFrom parameterAt parametersFrom parametersPast parametersAt callNameFrom callFrom callAt callsFrom rightSide mask listsSet listsClear asksSet asksClear setMask clearMask keepsClause stateMeets noStateMeets releasePress pressRelease elementsAt elementsOf expanded sequence detailOf keptDetail isImpossible keptEvent eventNumber judgedWritten judged productionPasses totalsPass passesLimit lineRead judgedAll lineOutcome linesFrom linesOf compiled readExamples askedCall askedProduction keysymsFrom keysymsOf isCrowded
+unfolding isAllowed firstBadByte isBlank isDigit isLetter belongs runEnd skip lineEnd lineAt isBlankLine directiveOf directiveAt modifierEntries modifierNamed protocolEntries synonymEntries abbreviationEntries typeEntries typeNamed digitValue digitsFrom numberIn keysymEntries keysymNames latin1Entries keyDetail buttonEntries motionEntries modeEntries requestEntries smallNumber nameOrNumber detailNamed keysymFrom nameFrom modifierNameAt modifierFrom modifierAt modifiersFrom leadColon leadFrom leadAt listOf typeFrom typeRun typeName typeAt countClose countPlus countRun countDigits countFrom countAt plainEventAt markedKey keyAt keysFrom keySequenceAt eventsFrom eventsAt afterEventFrom afterEventAt leftFrom leftSide parameterEnd quotedFrom unquotedFrom parameterFrom parameterAt parametersFrom parametersPast parametersAt callNameFrom callFrom callAt callsFrom rightSide mask listsSet listsClear asksSet asksClear setMask clearMask keepsClause stateMeets noStateMeets releasePress pressRelease elementsAt elementsOf expanded sequence detailOf keptDetail isImpossible keptEvent eventNumber judgedWritten judged productionPasses totalsPass passesLimit lineRead judgedAll lineOutcome linesFrom linesOf compiled readExamples askedCall askedProduction keysymsFrom keysymsOf isCrowded
 computed = refl
 
 -- ---- A text whose first call is as the example says is read so

@@ -2,18 +2,20 @@
 use Prim.Native.Nat.{ℕ, _+_, _-_, _≤_, _<_}
 use native.Mathlib.Omega.{arith}
 use mathlib.Core.Path.{_≡_, refl, sym, ap}
-use mathlib.Core.Bool.{Bool, true, false, not, _&&_, _||_}
-use mathlib.Core.List.{List}
+use mathlib.Core.Bool.{Bool, true, false, cond, not, _&&_, _||_}
+use mathlib.Core.List.{List, [], _∷_}
 use lib.Dec.{eqb, leb}
 use borrow.Author.Tests.{eqb-true, leb-true}
-use Rattle.model.specs.Lists.{all, isEmpty}
+use Rattle.model.specs.Lists.{bytes, isBefore, all, isEmpty}
 use Rattle.model.specs.Limits.{keysymLimit, smallDetailLimit}
 use Rattle.model.specs.Bytes.{isDigit, inRange}
 use Rattle.model.specs.Codes.{isKey, isButton, motionNotify, hasMode, mappingNotify}
-use Rattle.model.specs.Names.{Entry, firstMeaning}
-use Rattle.model.specs.Details.{digitValue, digitsFrom, numberIn, keyDetail, smallNumber, nameOrNumber, detailNamed, buttonEntries, motionEntries, modeEntries, requestEntries}
-use Rattle.model.specs.Canonical.{digitsIn, decimal, hexadecimal, isValue, nameOrDecimal, valueText}
+use Rattle.model.specs.Names.{Entry, firstMeaning, namesWith}
+use Rattle.model.specs.Latin1.{latin1Entries}
+use Rattle.model.specs.Details.{digitValue, digitsFrom, numberIn, keysymEntries, keysymNames, keyDetail, smallNumber, nameOrNumber, detailNamed, buttonEntries, motionEntries, modeEntries, requestEntries}
+use Rattle.model.specs.Canonical.{digitsIn, decimal, hexadecimal, isValue, nameOrDecimal, firstInOrder, firstNameOr, keysymText, valueText}
 use Rattle.model.specs.declared.names.DetailRead.{DetailRead}
+use Rattle.names.specs.Table.{valueNumber}
 use Rattle.lookup.proofs.Ranges.{detailSound}
 use Rattle.modifiers.proofs.Below.{every, every-at, both-left, both-right}
 use Rattle.grammar.specs.Bytes.{letterOrDigit}
@@ -94,10 +96,61 @@ button-reads v h =
     reads-from (firstMeaning buttonEntries DetailRead.Unknown (nameOrDecimal buttonEntries v)) v (nameOrDecimal buttonEntries v)
     (rw e at (every-at 5 (λ k. buttonReads (1 + k)) buttons-read (v - 1) l))
 
-key-reads : (v : ℕ) → leb v keysymLimit ≡ true → Reads (keyDetail (hexadecimal v)) v (hexadecimal v)
-unfolding hexadecimal
-key-reads v h =
-    record { stands = hexadecimal-reads v (leb-true v keysymLimit h); some = refl; letters = digits-letters 8 v }
+-- ---- Keysyms: names, by one test over all of them, and hexadecimal numbers
+
+abbrev entryReads : Entry DetailRead → Bool
+entryReads e = reads (keyDetail (bytes (e .name))) (valueNumber (e .meaning)) (bytes (e .name))
+
+names-read : all entryReads keysymNames ≡ true
+unfolding keyDetail keysymNames keysymEntries latin1Entries numberIn digitsFrom digitValue isDigit
+names-read = refl
+
+module _ (v : ℕ) where
+  abbrev KeyReads : List ℕ → Type 0
+  KeyReads word = Reads (keyDetail word) v word
+
+  -- an entry of the value
+  entry-reads : (e : Entry DetailRead) → entryReads e ≡ true → isValue v (e .meaning) ≡ true → KeyReads (bytes (e .name))
+  entry-reads e t q =
+      let m : valueNumber (e .meaning) ≡ v = ap valueNumber (is-value v (e .meaning) q) in
+      reads-from (keyDetail (bytes (e .name))) v (bytes (e .name)) (rw m at t)
+
+  either-reads : (b : Bool) (n least : List ℕ) → KeyReads n → KeyReads least → KeyReads (cond b n least)
+  either-reads true n least p q = p
+  either-reads false n least p q = q
+
+  first-reads : (es : List (Entry DetailRead)) (least : List ℕ) → all entryReads es ≡ true → KeyReads least
+      → KeyReads (firstInOrder least (namesWith (isValue v) es))
+  unfolding firstInOrder namesWith
+  first-reads [] least t p = p
+  first-reads (e ∷ es) least t p =
+      choose (isValue v (e .meaning))
+      (λ q.
+      rw q
+      (first-reads es (cond (isBefore (bytes (e .name)) least) (bytes (e .name)) least) (both-right (entryReads e) (all entryReads es) t)
+      (either-reads (isBefore (bytes (e .name)) least) (bytes (e .name)) least (entry-reads e (both-left (entryReads e) (all entryReads es) t) q) p)))
+      (λ q. rw q (first-reads es least (both-right (entryReads e) (all entryReads es) t) p))
+
+  named-reads : (es : List (Entry DetailRead)) (other : List ℕ) → all entryReads es ≡ true → KeyReads other
+      → KeyReads (firstNameOr other (namesWith (isValue v) es))
+  unfolding namesWith
+  named-reads [] other t p = p
+  named-reads (e ∷ es) other t p =
+      choose (isValue v (e .meaning))
+      (λ q.
+      rw q
+      (first-reads es (bytes (e .name)) (both-right (entryReads e) (all entryReads es) t)
+      (entry-reads e (both-left (entryReads e) (all entryReads es) t) q)))
+      (λ q. rw q (named-reads es other (both-right (entryReads e) (all entryReads es) t) p))
+
+  hexadecimal-key : leb v keysymLimit ≡ true → KeyReads (hexadecimal v)
+  unfolding hexadecimal
+  hexadecimal-key h =
+      record { stands = hexadecimal-reads v (leb-true v keysymLimit h); some = refl; letters = digits-letters 8 v }
+
+  key-reads : leb v keysymLimit ≡ true → KeyReads (keysymText v)
+  unfolding keysymText
+  key-reads h = named-reads keysymNames (hexadecimal v) names-read (hexadecimal-key h)
 
 -- ---- Any code
 

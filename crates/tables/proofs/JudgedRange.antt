@@ -15,7 +15,8 @@ use Rattle.model.specs.Numbers.{eventOrder}
 use Rattle.model.specs.Bytes.{inRange, isCode, byteAt, isDigit}
 use Rattle.model.specs.Codes.{takesCount, isKey, isButton, motionNotify, hasMode, mappingNotify, hasAtom}
 use Rattle.model.specs.Names.{Entry, firstMeaning, protocolEntries, synonymEntries, abbreviationEntries, typeEntries, typeNamed}
-use Rattle.model.specs.Details.{digitsFrom, withinLimit, numberIn, keysymEntries, startsHexadecimal, keyDetail, buttonEntries, motionEntries, modeEntries, requestEntries, leadingZero, smallNumber, nameOrNumber, detailNamed}
+use Rattle.model.specs.Latin1.{latin1Entries}
+use Rattle.model.specs.Details.{digitsFrom, withinLimit, numberIn, keysymEntries, keysymNames, startsHexadecimal, keyDetail, buttonEntries, motionEntries, modeEntries, requestEntries, leadingZero, smallNumber, nameOrNumber, detailNamed}
 use Rattle.model.specs.Events.{Modifier, name, keysym, ModifierList, Count, Written, WrittenEvent, event, key}
 use Rattle.model.specs.Modifiers.{bitIf, mask, modifiersOf, listsClear, setMask, clearMask, asksSet, asksClear}
 use Rattle.model.specs.Named.{listsForm, addsForm, namesMask, withRead, keysymsFrom, keysymsOf, isCrowded, hasNames}
@@ -78,22 +79,22 @@ unfolding numberIn
 number-pass base limit [] h = refl
 number-pass base limit (b ∷ bs) h = within-pass limit (digitsFrom base 0 (b ∷ bs)) h
 
-keysyms-pass : all (λ (e : Entry DetailRead). readTest (e .meaning)) keysymEntries ≡ true
-unfolding keysymEntries
+keysyms-pass : all (λ (e : Entry DetailRead). readTest (e .meaning)) keysymNames ≡ true
+unfolding keysymNames keysymEntries latin1Entries
 keysyms-pass = refl
 
 key-pass : (word : List ℕ) → Small word → Pass (keyDetail word)
 unfolding keyDetail
 key-pass word s =
-    cond-both Pass (eqb (length word) 1) (DetailRead.Value (byteAt word 0)) (cond (startsHexadecimal word) (numberIn 16 keysymLimit (drop 2 word)) (cond (isCode (byteAt word 0) "0") (numberIn 8 keysymLimit word) (cond (isDigit (byteAt word 0)) (numberIn 10 keysymLimit word) (firstMeaning keysymEntries DetailRead.Unknown word))))
+    cond-both Pass (eqb (length word) 1) (DetailRead.Value (byteAt word 0)) (cond (startsHexadecimal word) (numberIn 16 keysymLimit (drop 2 word)) (cond (isCode (byteAt word 0) "0") (numberIn 8 keysymLimit word) (cond (isDigit (byteAt word 0)) (numberIn 10 keysymLimit word) (firstMeaning keysymNames DetailRead.Unknown word))))
     (λ _. let b = s 0 in le-leb (byteAt word 0) 0x1FFFFFFF (omega arith))
-    (λ _. cond-both Pass (startsHexadecimal word) (numberIn 16 keysymLimit (drop 2 word)) (cond (isCode (byteAt word 0) "0") (numberIn 8 keysymLimit word) (cond (isDigit (byteAt word 0)) (numberIn 10 keysymLimit word) (firstMeaning keysymEntries DetailRead.Unknown word)))
+    (λ _. cond-both Pass (startsHexadecimal word) (numberIn 16 keysymLimit (drop 2 word)) (cond (isCode (byteAt word 0) "0") (numberIn 8 keysymLimit word) (cond (isDigit (byteAt word 0)) (numberIn 10 keysymLimit word) (firstMeaning keysymNames DetailRead.Unknown word)))
     (λ _. number-pass 16 keysymLimit (drop 2 word) (omega arith))
-    (λ _. cond-both Pass (isCode (byteAt word 0) "0") (numberIn 8 keysymLimit word) (cond (isDigit (byteAt word 0)) (numberIn 10 keysymLimit word) (firstMeaning keysymEntries DetailRead.Unknown word))
+    (λ _. cond-both Pass (isCode (byteAt word 0) "0") (numberIn 8 keysymLimit word) (cond (isDigit (byteAt word 0)) (numberIn 10 keysymLimit word) (firstMeaning keysymNames DetailRead.Unknown word))
     (λ _. number-pass 8 keysymLimit word (omega arith))
-    (λ _. cond-both Pass (isDigit (byteAt word 0)) (numberIn 10 keysymLimit word) (firstMeaning keysymEntries DetailRead.Unknown word)
+    (λ _. cond-both Pass (isDigit (byteAt word 0)) (numberIn 10 keysymLimit word) (firstMeaning keysymNames DetailRead.Unknown word)
     (λ _. number-pass 10 keysymLimit word (omega arith))
-    (λ _. named-test readTest keysymEntries DetailRead.Unknown word keysyms-pass refl))))
+    (λ _. named-test readTest keysymNames DetailRead.Unknown word keysyms-pass refl))))
 
 small-pass : (word : List ℕ) → Pass (smallNumber word)
 unfolding smallNumber

@@ -2,3 +2,4 @@ pub mod Laws
 pub mod Digits
 pub mod Joined
 pub mod Unpacked
+pub mod KeyNames

@@ -1,19 +1,18 @@
 -- `event_text::put_value` meets its contract.
 use borrow.Author.Needs.{needs}
-use native.Mathlib.Omega.{arith}
 use Rattle.writing.proofs.Laws.{put-as}
 use Rattle.event_text.proofs.Values.{value-key, value-button, value-motion, value-mode, value-request}
 use Rattle.event_text.proofs.put_value.Statement.{statement}
 use Rattle.event_text.proofs.put_value.Tie as tie
 
-put-hexadecimal-requires : tie.Need-put-hexadecimal-requires
-put-hexadecimal-requires c κs = search needs
+put-keysym-requires : tie.Need-put-keysym-requires
+put-keysym-requires c κs = search needs
 
 same-length : tie.Need-same-length
 same-length c = search needs
 
 returns : tie.Need-returns
-returns c = (put-as (value-key _ _ (c .before .before .before .before .before .before .pre .1) (c .before .before .before .before .if1 .taken)) (c .before .before .put-hexadecimal .ensures .0), omega (arith, c .before .before .put-hexadecimal .ensures .1))
+returns c = (put-as (value-key _ _ (c .before .before .before .before .before .before .pre .1) (c .before .before .before .before .if1 .taken)) (c .before .before .put-keysym .ensures .0), c .before .before .put-keysym .ensures .1)
 
 put-named-requires : tie.Need-put-named-requires
 put-named-requires c κs = search needs
@@ -55,7 +54,7 @@ pub put-value-spec : {M : Type 1} → statement M
 put-value-spec =
     tie.close
     (tie.spec
-    put-hexadecimal-requires
+    put-keysym-requires
     same-length
     returns
     put-named-requires

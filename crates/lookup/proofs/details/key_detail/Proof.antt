@@ -8,7 +8,6 @@ use borrow.Author.Tests.{eq-eqb, ne-eqb}
 use Rattle.model.specs.Details.{keyDetail, numberIn}
 use Rattle.model.specs.Limits.{keysymLimit}
 use Rattle.model.specs.Bytes.{isDigit}
-use Rattle.lookup.proofs.Groups.{keysym-found}
 use Rattle.numerals.proofs.Digits.{hexadecimal-length}
 use borrow.Author.Needs.{needs}
 use Rattle.lookup.proofs.details.key_detail.Statement.{statement}
@@ -71,14 +70,14 @@ returns-4 c =
     rw (ne-eqb _ _ (c .before .before .before .before .before .before .if1 .left), ← c .before .before .before .before .before .starts-hexadecimal .ensures, c .before .before .before .before .if2 .left, ← c .before .before .before .before .before .before .before .byte-at .ensures, ne-eqb _ _ (c .before .before .before .if3 .left), ← c .before .before .in-range .ensures, c .before .if4 .taken)
     (c .number-in3 .ensures)
 
-detail-in-requires : tie.Need-detail-in-requires
-detail-in-requires c κs = search needs
+keysym-named-requires : tie.Need-keysym-named-requires
+keysym-named-requires c κs = search needs
 
 returns-5 : tie.Need-returns-5
 unfolding keyDetail isDigit
 returns-5 c =
     rw (ne-eqb _ _ (c .before .before .before .before .before .before .if1 .left), ← c .before .before .before .before .before .starts-hexadecimal .ensures, c .before .before .before .before .if2 .left, ← c .before .before .before .before .before .before .before .byte-at .ensures, ne-eqb _ _ (c .before .before .before .if3 .left), ← c .before .before .in-range .ensures, c .before .if4 .left)
-    (c .detail-in .ensures ∙ keysym-found (c .before .before .before .before .before .before .before .before .before .args .w .now))
+    (c .keysym-named .ensures)
 
 pub key-detail-spec : {M : Type 1} → statement M
 key-detail-spec =
@@ -98,5 +97,5 @@ key-detail-spec =
     in-range-requires
     number-in-requires-3
     returns-4
-    detail-in-requires
+    keysym-named-requires
     returns-5)
