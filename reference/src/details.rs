@@ -1,5 +1,6 @@
-//! Details (01, "The text", "Details").
+//! Details (01, "The text", "Details"; 02, R-4).
 
+use crate::keysyms;
 use crate::names::{self, EventType};
 use crate::numbers::Number;
 
@@ -25,35 +26,6 @@ impl Detail {
         }
     }
 }
-
-/// Names with values from keysymdef.h.
-pub const KEYS: &[(&str, u32)] = &[
-    ("space", 0x20),
-    ("comma", 0x2C),
-    ("colon", 0x3A),
-    ("BackSpace", 0xFF08),
-    ("Tab", 0xFF09),
-    ("Return", 0xFF0D),
-    ("Escape", 0xFF1B),
-    ("Delete", 0xFFFF),
-    ("Home", 0xFF50),
-    ("Left", 0xFF51),
-    ("Up", 0xFF52),
-    ("Right", 0xFF53),
-    ("Down", 0xFF54),
-    ("F1", 0xFFBE),
-    ("F2", 0xFFBF),
-    ("F3", 0xFFC0),
-    ("F4", 0xFFC1),
-    ("F5", 0xFFC2),
-    ("F6", 0xFFC3),
-    ("F7", 0xFFC4),
-    ("F8", 0xFFC5),
-    ("F9", 0xFFC6),
-    ("F10", 0xFFC7),
-    ("F11", 0xFFC8),
-    ("F12", 0xFFC9),
-];
 
 const BUTTONS: &[(&str, u32)] = &[
     ("Button1", 1),
@@ -128,7 +100,7 @@ pub fn keysym(written: &[u8]) -> Option<Detail> {
         [b'0', b'x' | b'X', digits @ ..] => number(digits, 16, LARGEST_KEYSYM),
         [b'0', digits @ ..] => number(digits, 8, LARGEST_KEYSYM),
         [b'1'..=b'9', ..] => number(written, 10, LARGEST_KEYSYM),
-        _ => named(KEYS, written),
+        _ => keysyms::named(written).map(Detail::Value),
     }
 }
 
@@ -169,12 +141,20 @@ fn number(digits: &[u8], radix: u32, largest: u32) -> Option<Detail> {
 /// detail of a type that takes none reads as mapping's.
 pub fn canonical(code: u8, value: u32) -> String {
     let known = match taken(code) {
-        Taken::Keysym => return format!("{value:#x}"),
+        Taken::Keysym => return canonical_keysym(value),
         Taken::Names(known) | Taken::NamesAndNumbers(known) => known,
         Taken::Atom | Taken::Nothing => MAPPINGS,
     };
     match known.iter().find(|&&(_, named)| named == value) {
         Some((name, _)) => name.to_string(),
         None => value.to_string(),
+    }
+}
+
+/// "For a key detail the writer gives the name where there is one .. and hexadecimal otherwise."
+fn canonical_keysym(value: u32) -> String {
+    match keysyms::first_name(value) {
+        Some(name) => name.to_string(),
+        None => format!("{value:#x}"),
     }
 }

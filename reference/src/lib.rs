@@ -1,5 +1,5 @@
 //! A second implementation of X translation tables, written from document 01 ("01" below),
-//! requests of document 02 ("02"), the readings of both and Appendix B ("001"), as
+//! requests of document 02 ("02"), the readings of both and Appendix B ("001"), as
 //! plainly as they read.
 //!
 //! Each module holds one section, or one part of a section, of 01, or what a request adds.
@@ -9,6 +9,7 @@ pub mod compiling;
 pub mod counts;
 pub mod details;
 pub mod keyboard;
+pub mod keysyms;
 pub mod layout;
 pub mod limits;
 pub mod merging;

@@ -2,6 +2,7 @@
 
 use crate::checks::Outcomes;
 use crate::generate::limits::{Aim, Limit};
+use crate::keysyms;
 use crate::modifiers::{ListedName, STANDARD};
 use crate::names;
 use crate::numbers::Number;
@@ -33,6 +34,9 @@ pub struct Statistics {
     pub colon_events: usize,
     pub clause_events: usize,
     pub detailed_events: usize,
+    /// Key details that are written by name, and those that are written in hexadecimal.
+    pub named_details: usize,
+    pub unnamed_details: usize,
     /// Events with a name, and of these: with `!`, a colon, a name after `@`, a name that is
     /// listed both without `~` and with it.
     pub named_events: usize,
@@ -130,6 +134,12 @@ impl Statistics {
             self.colon_events += usize::from(spec.test.colon);
             self.clause_events += usize::from(spec.test.clause);
             self.detailed_events += usize::from(spec.detail.is_some());
+            if let (true, Some(keysym)) = (names::is_key(spec.code), spec.detail) {
+                match keysyms::first_name(keysym) {
+                    Some(_) => self.named_details += 1,
+                    None => self.unnamed_details += 1,
+                }
+            }
             let test = &spec.test;
             let both_ways = |two: &[ListedName]| two[0].name == two[1].name;
             self.named_events += usize::from(test.has_names());
@@ -256,6 +266,8 @@ impl fmt::Display for Statistics {
         writeln!(out, "  with colon      {}", self.colon_events)?;
         writeln!(out, "  with clause     {}", self.clause_events)?;
         writeln!(out, "  with detail     {}", self.detailed_events)?;
+        writeln!(out, "    key, by name  {}", self.named_details)?;
+        writeln!(out, "    key, by hex   {}", self.unnamed_details)?;
         writeln!(out, "  with names      {}", self.named_events)?;
         writeln!(out, "    and !         {}", self.named_exact_events)?;
         writeln!(out, "    and a colon   {}", self.named_colon_events)?;

@@ -16,9 +16,9 @@ use crate::writing::write;
 #[derive(Debug, PartialEq, Eq)]
 pub struct BadRequest;
 
-/// The rules here are those of 01 with applied; R-3 changes no answer. A request says
+/// The rules here are those of 01 with applied; R-3 changes no answer. A request says
 /// which of 02's it counts on; one that counts on fewer is answered by these rules too.
-const LEVEL: i64 = 3;
+const LEVEL: i64 = 4;
 
 /// The answer line for a request line.
 pub fn answer(request: &str) -> Result<String, BadRequest> {

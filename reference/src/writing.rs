@@ -1,4 +1,4 @@
-//! The canonical writer (01, "Merging and writing"; 001, "Canonical Representation"; 02, R-1).
+//! The canonical writer (01, "Merging and writing"; 001, "Canonical Representation"; 02, R-1 and R-4).
 
 use crate::calls::{self, CallContents, ProductionContents, Texts};
 use crate::details;

@@ -642,8 +642,8 @@ fn merging_by_directive() {
     let old = "<Key>a:old1()\n<Key>b:old2()";
     let new = "<Key>c:new1()\n<Key>b:new2()";
     let merged = |directive: &str| written_merged(old, &format!("{directive}{new}"));
-    let [a, b_old] = ["<KeyPress>0x61:old1()\n", "<KeyPress>0x62:old2()\n"];
-    let [c, b_new] = ["<KeyPress>0x63:new1()\n", "<KeyPress>0x62:new2()\n"];
+    let [a, b_old] = ["<KeyPress>a:old1()\n", "<KeyPress>b:old2()\n"];
+    let [c, b_new] = ["<KeyPress>c:new1()\n", "<KeyPress>b:new2()\n"];
     assert_eq!(merged(""), [c, b_new].concat());
     assert_eq!(merged("#override\n"), [c, b_new, a].concat());
     assert_eq!(merged("#augment\n"), [a, b_old, c].concat());
@@ -661,16 +661,16 @@ fn the_whole_written_example() {
     let text = "#override\ns c<Key>a : go(now,) stop()\n<Btn1Up>(2): ok()";
     assert_eq!(
         written(text),
-        "Ctrl Shift<KeyPress>0x61:go(\"now\",\"\") stop()\n<ButtonRelease>(2)Button1:ok()\n"
+        "Ctrl Shift<KeyPress>a:go(\"now\",\"\") stop()\n<ButtonRelease>(2)Button1:ok()\n"
     );
 }
 
 #[test]
 fn written_events() {
     let pairs = [
-        ("None<Key>a:", "!<KeyPress>0x61:\n"),
-        ("!: Mod1 Ctrl<Key>A:", "!:Ctrl Mod1<KeyPress>0x41:\n"),
-        (": ~Mod1<Key>Return:", ":~Mod1<KeyPress>0xff0d:\n"),
+        ("None<Key>a:", "!<KeyPress>a:\n"),
+        ("!: Mod1 Ctrl<Key>A:", "!:Ctrl Mod1<KeyPress>A:\n"),
+        (": ~Mod1<Key>Return:", ":~Mod1<KeyPress>Return:\n"),
         ("Button1~s<Enter>1:", "~Shift Button1<EnterNotify>Grab:\n"),
         (
             "<Enter>4,<Mapping>2:",

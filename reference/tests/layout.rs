@@ -138,12 +138,12 @@ fn tables_that_no_text_gives() {
 
     // Without a name too, `!` asks every unlisted bit clear.
     let exact = with_flags("Ctrl ~Shift<Key>A:", 4 | 8);
-    assert_eq!(text_of(&exact), "!Ctrl ~Shift<KeyPress>0x41:\n");
+    assert_eq!(text_of(&exact), "!Ctrl ~Shift<KeyPress>A:\n");
     assert!(!selects(&exact, CTRL) && !selects(&exact, CTRL | LOCK));
     let exact = with_flags("Ctrl<Key>a:", 4 | 8);
     assert!(selects(&exact, CTRL) && !selects(&exact, CTRL | LOCK) && !selects(&exact, 0));
     let with_colon = with_flags(":Ctrl<Key>A:", 1 | 4 | 8);
-    assert_eq!(text_of(&with_colon), "!:Ctrl<KeyPress>0x41:\n");
+    assert_eq!(text_of(&with_colon), "!:Ctrl<KeyPress>A:\n");
     assert!(selects(&with_colon, CTRL | LOCK) && !selects(&with_colon, CTRL | LOCK | MOD1));
     // All testable bits asked, and `!` kept: written as it stands.
     let all_asked = with_flags("None<Enter>:", 8);

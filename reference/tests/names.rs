@@ -192,7 +192,6 @@ fn runs_after_the_at_sign() {
             "@Meta_L<Key>a:",
             "@None<Key>a:",
             "@08<Key>a:",
-            "@eacute<Key>a:",
             "@0x<Key>a:",
             "@Meta<Key>a:",
         ],
@@ -365,12 +364,12 @@ fn equal_as_written() {
     let with_meta = format!("{thirteen} Meta<Key>a");
     assert_eq!(
         written(format!("{with_meta}:")),
-        format!("{thirteen} Meta<KeyPress>0x61:\n")
+        format!("{thirteen} Meta<KeyPress>a:\n")
     );
     assert!(!equal(&with_meta, &format!("!{with_meta}")));
     let without = format!("{thirteen}<Key>a");
     assert!(equal(&without, &format!("!{without}")) && equal(&without, "!<Key>a"));
-    assert_eq!(written(format!("{without}:")), "!<KeyPress>0x61:\n");
+    assert_eq!(written(format!("{without}:")), "!<KeyPress>a:\n");
 }
 
 #[test]
@@ -394,18 +393,18 @@ fn written_names() {
             "~m @0x100 m ~@b a @a ~Shift Button5<Key>:",
             "~Shift Button5 Meta ~Meta Alt @0x61 ~@0x62 @0x100<KeyPress>:\n",
         ),
-        ("su a h m<Key>a:", "Meta Alt Hyper Super<KeyPress>0x61:\n"),
+        ("su a h m<Key>a:", "Meta Alt Hyper Super<KeyPress>a:\n"),
         ("~@b @b @b ~@b<Key>:", "@0x62 ~@0x62<KeyPress>:\n"),
         (
             "@5 @10 @010 @Return<Key>:",
             "@0x8 @0xa @0x35 @0xff0d<KeyPress>:\n",
         ),
-        ("!:h<Key>a:", "!:Hyper<KeyPress>0x61:\n"),
+        ("!:h<Key>a:", "!:Hyper<KeyPress>a:\n"),
         ("! ~Ctrl su<Enter>:", "!~Ctrl Super<EnterNotify>:\n"),
         ("@00<Btn1Down>(2):", "@0x0<ButtonPress>(2)Button1:\n"),
         (
             "None<Meta>a:\nAny<Meta>a:",
-            "!Meta<KeyPress>0x61:\nMeta<KeyPress>0x61:\n",
+            "!Meta<KeyPress>a:\nMeta<KeyPress>a:\n",
         ),
         (
             "Meta<BtnMotion>:\nMeta<Btn1Motion>:",

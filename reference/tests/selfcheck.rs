@@ -28,6 +28,8 @@ fn generated_cases() {
         statistics.colon_events,
         statistics.clause_events,
         statistics.detailed_events,
+        statistics.named_details,
+        statistics.unnamed_details,
         statistics.named_events,
         statistics.named_exact_events,
         statistics.named_colon_events,

@@ -1,5 +1,6 @@
 //! Damage to valid texts.
 
+use crate::keysyms;
 use crate::names;
 use crate::random::Random;
 
@@ -144,9 +145,28 @@ fn event(random: &mut Random, out: &mut Vec<u8>) {
     if random.percent(25) {
         out.extend(random.pick(COUNTS).as_bytes());
     }
-    if random.percent(40) {
-        out.extend(random.pick(DETAILS).as_bytes());
+    match random.below(100) {
+        0..=29 => out.extend(random.pick(DETAILS).as_bytes()),
+        30..=49 => out.extend(nearly_key_name(random)),
+        _ => {}
     }
+}
+
+/// A key's name, or a word next to one: a byte changed, put in or left out, or in the other case.
+fn nearly_key_name(random: &mut Random) -> Vec<u8> {
+    let names: Vec<&str> = keysyms::names().map(|(name, _)| name).collect();
+    let mut word = random.pick(&names).as_bytes().to_vec();
+    let at = random.below(word.len());
+    let byte = *random.pick(b"aeghilnorstuAEO019_-");
+    match random.below(6) {
+        0 => word[at] = byte,
+        1 => word.insert(at + random.below(2), byte),
+        2 => drop(word.remove(at)),
+        3 if word[at].is_ascii_uppercase() => word[at].make_ascii_lowercase(),
+        3 => word[at].make_ascii_uppercase(),
+        _ => {}
+    }
+    word
 }
 
 fn modifier_list(random: &mut Random, out: &mut Vec<u8>) {
@@ -161,12 +181,12 @@ fn modifier_list(random: &mut Random, out: &mut Vec<u8>) {
             out.push(b'~');
         }
         let (of_bits, relatives) = names::MODIFIERS.split_at(names::BIT_MODIFIERS);
-        let name = match random.below(100) {
-            0..=59 => random.pick(of_bits).0,
-            60..=84 => random.pick(relatives).0,
-            _ => random.pick(ODD_MODIFIERS),
-        };
-        out.extend(name.as_bytes());
+        match random.below(100) {
+            0..=59 => out.extend(random.pick(of_bits).0.as_bytes()),
+            60..=79 => out.extend(random.pick(relatives).0.as_bytes()),
+            80..=89 => out.extend([b"@", nearly_key_name(random).as_slice()].concat()),
+            _ => out.extend(random.pick(ODD_MODIFIERS).as_bytes()),
+        }
     }
 }
 

@@ -2,7 +2,8 @@
 
 use crate::calls::{CallContents, ProductionContents};
 use crate::counts;
-use crate::details::{self, Taken, HINT, KEYS, LARGEST_KEYSYM, LARGEST_NUMBER, NORMAL};
+use crate::details::{self, Taken, HINT, LARGEST_KEYSYM, LARGEST_NUMBER, NORMAL};
+use crate::keysyms::KEYS;
 use crate::limits;
 use crate::modifiers::{self, ListedName, ModifierTest, Named, ALL, BUTTON1, BUTTONS};
 use crate::names::{self, Name, RELATIVES};
@@ -394,16 +395,24 @@ fn detail(random: &mut Random, code: u8) -> Option<u32> {
     }
 }
 
+/// Keysyms with two names each.
+const WITH_TWO_NAMES: &[u32] = &[0x27, 0x60, 0xD0, 0xD8, 0xDE, 0xF8];
+
+/// The ends of the keysyms that have Latin-1 names, and those next to them.
+const ENDS_OF_NAMED: &[u32] = &[0x1F, 0x20, 0x7E, 0x7F, 0x9F, 0xA0, 0xFF, 0x100];
+
 pub fn keysym(random: &mut Random) -> u32 {
-    match random.below(21) {
+    match random.below(23) {
         0..=5 => random.range(0x61, 0x64) as u32,
         6..=8 => random.range(0x41, 0x44) as u32,
         // Those of Meta and its relatives.
         20 => random.range(0xFFE7, 0xFFEE) as u32,
-        9..=10 => random.range(0xC0, 0xFF) as u32,
+        9..=10 => random.range(0xA0, 0xFF) as u32,
         11..=14 => random.range(0x20, 0x7E) as u32,
         15..=17 => random.pick(KEYS).1,
         18 => *random.pick(&[0, 1, 7, 8, 9, 10, LARGEST_KEYSYM - 1, LARGEST_KEYSYM]),
+        21 => *random.pick(WITH_TWO_NAMES),
+        22 => *random.pick(ENDS_OF_NAMED),
         _ => random.card32() & LARGEST_KEYSYM,
     }
 }

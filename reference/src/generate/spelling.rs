@@ -1,7 +1,8 @@
 //! Spells productions as text, by a random choice among all spellings that the grammar has.
 
 use crate::calls::{CallContents, ProductionContents};
-use crate::details::{self, Taken, KEYS};
+use crate::details::{self, Taken};
+use crate::keysyms;
 use crate::modifiers::{ListedName, ModifierTest, BUTTONS, CTRL};
 use crate::names::{self, Adds, EventType, Modifier, Name};
 use crate::random::Random;
@@ -279,9 +280,9 @@ impl Speller<'_> {
         if value >= 10 {
             spellings.push(value.to_string().into_bytes());
         }
-        for (name, named) in KEYS {
-            if *named == value {
-                spellings.push(name.as_bytes().to_vec());
+        for (name, named) in keysyms::names() {
+            if named == value {
+                spellings.extend(vec![name.as_bytes().to_vec(); 3]);
             }
         }
         if let Ok(byte) = u8::try_from(value) {

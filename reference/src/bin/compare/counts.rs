@@ -59,6 +59,13 @@ pub struct Counts {
     pub texts_with_names: u64,
     /// Of all, texts of a name of a modifier or event type, or of a word next to one.
     pub texts_of_words: u64,
+    /// Of all, texts with a Latin-1 name of a key in a line that is in the grammar.
+    pub texts_with_key_names: u64,
+    /// Texts of a name of a key, and texts of a keysym in hexadecimal, written and read back.
+    pub texts_of_key_names: u64,
+    pub texts_of_keysyms: u64,
+    /// Texts of a word next to a name of a key.
+    pub texts_of_key_words: u64,
     pub merged: Numbers,
     pub written: Numbers,
     /// Questions for counts, names and parameters.
@@ -86,6 +93,10 @@ impl AddAssign<&Counts> for Counts {
         self.compiled += &other.compiled;
         self.texts_with_names += other.texts_with_names;
         self.texts_of_words += other.texts_of_words;
+        self.texts_with_key_names += other.texts_with_key_names;
+        self.texts_of_key_names += other.texts_of_key_names;
+        self.texts_of_keysyms += other.texts_of_keysyms;
+        self.texts_of_key_words += other.texts_of_key_words;
         self.merged += &other.merged;
         self.written += &other.written;
         self.asked += &other.asked;
@@ -112,8 +123,13 @@ impl Counts {
             && self.written.each_of(&[0, 1, 12])
             && self.asked.each_of(&[0, 1, 12, 16])
             && self.matched.each_of(&[0, 1, 12, 13, 14, 18])
-            && self.texts_with_names >= 300_000
+            && self.texts_with_names >= 450_000
             && self.texts_of_words >= 300_000
+            && self.texts_with_key_names >= 50_000
+            // Three of each of 197 + 25 names, two of each of 512 + 25 keysyms.
+            && self.texts_of_key_names >= 666
+            && self.texts_of_keysyms >= 1_074
+            && self.texts_of_key_words >= 300_000
             && self.merged.total() >= 20_000
             && self.written.total() >= 20_000
             && self.matched.total() >= 3_000_000
@@ -134,6 +150,13 @@ impl fmt::Display for Counts {
         writeln!(out, "compiled texts  {}", self.compiled)?;
         writeln!(out, "  with names    {}", self.texts_with_names)?;
         writeln!(out, "  of words      {}", self.texts_of_words)?;
+        writeln!(out, "  key names     {}", self.texts_with_key_names)?;
+        writeln!(
+            out,
+            "    read back   {}, of keysyms {}",
+            self.texts_of_key_names, self.texts_of_keysyms
+        )?;
+        writeln!(out, "    of words    {}", self.texts_of_key_words)?;
         writeln!(out, "merges          {}", self.merged)?;
         writeln!(out, "writes          {}", self.written)?;
         writeln!(out, "questions       {}", self.asked)?;

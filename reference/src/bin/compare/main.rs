@@ -9,6 +9,8 @@ mod counts;
 #[cfg(archive)]
 mod damage;
 #[cfg(archive)]
+mod keys;
+#[cfg(archive)]
 mod lent;
 #[cfg(archive)]
 mod matching;

@@ -2,6 +2,7 @@
 
 use crate::capi;
 use crate::counts::Counts;
+use crate::keys;
 use crate::tables::{ensure, Compared, Comparison, Given};
 use crate::vectors;
 use crate::words;
@@ -62,7 +63,8 @@ fn parse(arguments: &[String]) -> Option<Option<(u64, u64)>> {
     }
 }
 
-/// The worked examples, the names and the words next to them, then all cases of each seed.
+/// The worked examples, the names and the words next to them, the keysyms, then all cases of each
+/// seed.
 fn compare(runs: &[(u64, u64)]) -> Compared<Counts> {
     let lengths = (capi::table_length(), capi::state_length());
     ensure(lengths == (TABLE_BYTES, STATE_BYTES), || {
@@ -71,6 +73,7 @@ fn compare(runs: &[(u64, u64)]) -> Compared<Counts> {
     let mut examples = Comparison::new(Random::new(0, 0));
     vectors::run(&mut examples)?;
     words::run(&mut examples)?;
+    keys::run(&mut examples)?;
     let mut counts = examples.counts;
     for &(seed, count) in runs {
         counts += &cases(seed, count)?;

@@ -4,6 +4,7 @@ use crate::capi::{self, Answer};
 use crate::counts::Counts;
 use crate::lent::Lent;
 use glykorant_reference::calls::{self, Part, Texts};
+use glykorant_reference::keysyms::LATIN_1;
 use glykorant_reference::layout::{self, TABLE_BYTES};
 use glykorant_reference::limits::TEXT_BYTES;
 use glykorant_reference::names::{self, Modifier};
@@ -154,6 +155,7 @@ impl Comparison {
         };
         let read_by_lines = !matches!(answer.number, 1..=3);
         self.counts.texts_with_names += u64::from(read_by_lines && has_names(text));
+        self.counts.texts_with_key_names += u64::from(read_by_lines && has_key_names(text));
         match expected {
             Ok(table) => {
                 answers("compile", answer, Number::Accepted, 0)?;
@@ -209,6 +211,17 @@ impl Comparison {
             _ => self.random.below(full + 1),
         };
         self.write_into(given, texts, length, expected)
+    }
+
+    /// Writes a compiled table into a buffer of just the length; gives the written text.
+    pub fn written(&mut self, given: &Given, text: &[u8]) -> Compared<Vec<u8>> {
+        let texts = LentTexts::new(&mut self.random, [text, b""]);
+        let expected = given
+            .table()
+            .and_then(|table| write(table, &texts.slices()));
+        let written = expected.clone().map_err(|number| format!("{number:?}"))?;
+        self.write_into(given, &texts, written.len(), expected)?;
+        Ok(written)
     }
 
     fn write_into(
@@ -373,9 +386,33 @@ impl Comparison {
 
 /// Whether a line of the text that is in the grammar has a name of R-1, refused or not.
 fn has_names(text: &[u8]) -> bool {
+    has_event(text, is_named)
+}
+
+/// Whether such a line has a name of R-4 as a detail or after `@`, of more than one character.
+fn has_key_names(text: &[u8]) -> bool {
+    has_event(text, has_key_name)
+}
+
+fn has_event(text: &[u8], is_meant: fn(&WrittenEvent) -> bool) -> bool {
     let lines = text::lines(text).into_iter();
     let mut productions = lines.filter_map(|line| text::parse(text, line).ok());
-    productions.any(|production| production.events.iter().any(is_named))
+    productions.any(|production| production.events.iter().any(is_meant))
+}
+
+fn has_key_name(event: &WrittenEvent) -> bool {
+    let WrittenEvent::Described(Description { list, detail, .. }) = event else {
+        return false;
+    };
+    let runs = list
+        .modifiers
+        .iter()
+        .filter_map(|written| match written.name {
+            ModifierName::Keysym(run) => Some(run),
+            ModifierName::Plain(_) => None,
+        });
+    let mut words = runs.chain(*detail).filter(|word| word.len() > 1);
+    words.any(|word| LATIN_1.iter().any(|(name, _)| name.as_bytes() == word))
 }
 
 fn is_named(event: &WrittenEvent) -> bool {

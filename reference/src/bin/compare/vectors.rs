@@ -1,5 +1,5 @@
-//! Worked examples, run through both implementations and compared with what 01, R-1 and R-2 of 02
-//! and Appendix B say of them.
+//! Worked examples, run through both implementations and compared with what 01, R-1, R-2 and R-4 of
+//! 02 and Appendix B say of them.
 
 use crate::matching::Keys;
 use crate::tables::{ensure, Compared, Comparison, LentTexts};
@@ -17,7 +17,7 @@ const OF_01: &[Text] = &[
         "#override\ns c<Key>a : go(now,) stop()\n<Btn1Up>(2): ok()",
         0,
         0,
-        "Ctrl Shift<KeyPress>0x61:go(\"now\",\"\") stop()\n<ButtonRelease>(2)Button1:ok()\n",
+        "Ctrl Shift<KeyPress>a:go(\"now\",\"\") stop()\n<ButtonRelease>(2)Button1:ok()\n",
     ),
     // "`f()` has no parameter, `f(\"\")` one, `f(,)` two empty ones."
     ("<Map>:f()", 0, 0, "<MapNotify>:f()\n"),
@@ -35,15 +35,15 @@ const OF_01: &[Text] = &[
     ("<map>:", 5, 0, ""),
     ("ctrl<Key>:", 5, 0, ""),
     // What type names add or fix.
-    ("<Ctrl>a:", 0, 0, "Ctrl<KeyPress>0x61:\n"),
-    ("<Shift>a:", 0, 0, "Shift<KeyPress>0x61:\n"),
+    ("<Ctrl>a:", 0, 0, "Ctrl<KeyPress>a:\n"),
+    ("<Shift>a:", 0, 0, "Shift<KeyPress>a:\n"),
     ("<Btn1Motion>:", 0, 0, "Button1<MotionNotify>:\n"),
     ("<BtnMotion>:", 0, 0, "<BtnMotion>:\n"),
     ("Button2<BtnMotion>:", 0, 0, "Button2<MotionNotify>:\n"),
     ("<Btn1Down>:", 0, 0, "<ButtonPress>Button1:\n"),
     ("<Btn1Down>Button1:", 5, 0, ""),
     // Details.
-    ("<Key>7,<Key>07:", 0, 0, "<KeyPress>0x37,<KeyPress>0x7:\n"),
+    ("<Key>7,<Key>07:", 0, 0, "<KeyPress>7,<KeyPress>0x7:\n"),
     ("<Key>0x1FFFFFFF:", 0, 0, "<KeyPress>0x1fffffff:\n"),
     ("<Key>0x20000000:", 6, 0, ""),
     ("<Key>09:", 5, 0, ""),
@@ -55,7 +55,7 @@ const OF_01: &[Text] = &[
     ),
     ("<Mapping>256:", 6, 0, ""),
     // "Count 1 reads as no count."
-    ("<Key>(1)a:", 0, 0, "<KeyPress>0x61:\n"),
+    ("<Key>(1)a:", 0, 0, "<KeyPress>a:\n"),
     ("<Key>(0)a:x()", 6, 0, ""),
     // Modifier tests.
     ("Shift ~Shift<Key>a:x()", 8, 0, ""),
@@ -63,7 +63,7 @@ const OF_01: &[Text] = &[
     ("!<BtnMotion>:", 8, 0, ""),
     ("Any<FocusIn>:", 7, 0, ""),
     (":<Shift>a:", 9, 0, ""),
-    ("!:Ctrl<Key>a:", 0, 0, "!:Ctrl<KeyPress>0x61:\n"),
+    ("!:Ctrl<Key>a:", 0, 0, "!:Ctrl<KeyPress>a:\n"),
     // The place is the start of the line, the byte for 3.
     ("<Map>:\n\n  <Mop>:", 5, 8, ""),
     ("<Map>:f(\r)", 3, 8, ""),
@@ -71,12 +71,12 @@ const OF_01: &[Text] = &[
 ];
 
 const OF_02: &[Text] = &[
-    ("Meta<Key>a:", 0, 0, "Meta<KeyPress>0x61:\n"),
-    ("<Meta>a:", 0, 0, "Meta<KeyPress>0x61:\n"),
-    ("@x<Key>a:", 0, 0, "@0x78<KeyPress>0x61:\n"),
-    ("\"$a\":", 0, 0, "Meta<KeyPress>0x61:\n"),
-    ("None<Meta>a:", 0, 0, "!Meta<KeyPress>0x61:\n"),
-    ("Any<Meta>a:", 0, 0, "Meta<KeyPress>0x61:\n"),
+    ("Meta<Key>a:", 0, 0, "Meta<KeyPress>a:\n"),
+    ("<Meta>a:", 0, 0, "Meta<KeyPress>a:\n"),
+    ("@x<Key>a:", 0, 0, "@0x78<KeyPress>a:\n"),
+    ("\"$a\":", 0, 0, "Meta<KeyPress>a:\n"),
+    ("None<Meta>a:", 0, 0, "!Meta<KeyPress>a:\n"),
+    ("Any<Meta>a:", 0, 0, "Meta<KeyPress>a:\n"),
     // "The writer puts the names after Button5."
     (
         "~m @0x100 m ~@b a @a ~Shift Button5<Key>:",
@@ -88,14 +88,14 @@ const OF_02: &[Text] = &[
         "su a h m<Key>a:",
         0,
         0,
-        "Meta Alt Hyper Super<KeyPress>0x61:\n",
+        "Meta Alt Hyper Super<KeyPress>a:\n",
     ),
     // "Over four different keysyms in an event is 11."
     (
         "@a ~@a @97 @b @c @d Meta Alt<Key>e:",
         0,
         0,
-        "Meta Alt @0x61 ~@0x61 @0x62 @0x63 @0x64<KeyPress>0x65:\n",
+        "Meta Alt @0x61 ~@0x61 @0x62 @0x63 @0x64<KeyPress>e:\n",
     ),
     ("<Map>:\n@a @b @c @d ~@e<Key>a:", 11, 7, ""),
     ("@a @b @c @d @e<Key>a,<Foo>:", 5, 0, ""),
@@ -105,10 +105,34 @@ const OF_02: &[Text] = &[
     ("@0x20000000<Prop>foo:", 6, 0, ""),
     // "8 as if these names weren't there."
     ("!Meta<Ctrl>a:", 8, 0, ""),
-    ("Meta ~Meta<Key>a:", 0, 0, "Meta ~Meta<KeyPress>0x61:\n"),
+    ("Meta ~Meta<Key>a:", 0, 0, "Meta ~Meta<KeyPress>a:\n"),
     ("Meta<Expose>:", 7, 0, ""),
     ("Meta<Prop>foo:", 10, 0, ""),
     (":Meta Shift<Key>a:", 9, 0, ""),
+    // "A name not found is still 5."
+    (
+        "<Key>Eth,<Key>quoteleft:",
+        0,
+        0,
+        "<KeyPress>ETH,<KeyPress>grave:\n",
+    ),
+    ("<Key>guillemetleft:", 5, 0, ""),
+    ("<Key>Linefeed:", 5, 0, ""),
+    ("<Key>XK_a:", 5, 0, ""),
+    // "The writer gives the name where there is one .. and hexadecimal otherwise."
+    (
+        "<Key>0xff0d,<Key>0xffc9,<Key>0x35:",
+        0,
+        0,
+        "<KeyPress>Return,<KeyPress>F12,<KeyPress>5:\n",
+    ),
+    (
+        "<Key>0x7f,<Key>00,<Key>0x100:",
+        0,
+        0,
+        "<KeyPress>0x7f,<KeyPress>0x0,<KeyPress>0x100:\n",
+    ),
+    ("@eacute<Key>eacute:", 0, 0, "@0xe9<KeyPress>eacute:\n"),
 ];
 
 const OF_APPENDIX_B: &[Text] = &[
@@ -175,7 +199,7 @@ const OF_APPENDIX_B: &[Text] = &[
         ":<Key>a:\n:<Key>A:\n<Key>0:\n<Key>!:",
         0,
         0,
-        ":<KeyPress>0x61:\n:<KeyPress>0x41:\n<KeyPress>0x30:\n<KeyPress>0x21:\n",
+        ":<KeyPress>a:\n:<KeyPress>A:\n<KeyPress>0:\n<KeyPress>exclam:\n",
     ),
 ];
 

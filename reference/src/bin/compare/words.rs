@@ -13,7 +13,7 @@ const LONGEST_WORD: usize = 70;
 pub fn run(comparison: &mut Comparison) -> Compared<()> {
     for name in names() {
         compare(comparison, name)?;
-        for word in next_to(name) {
+        for word in next_to(name, RUN) {
             compare(comparison, &word)?;
         }
     }
@@ -45,18 +45,18 @@ fn compare(comparison: &mut Comparison, word: &[u8]) -> Compared<()> {
     Ok(())
 }
 
-/// One byte changed, put in or left out, and one more at either end.
-fn next_to(name: &[u8]) -> Vec<Vec<u8>> {
+/// One byte changed, put in or left out, and one more at either end; the others are of these.
+pub fn next_to(name: &[u8], bytes: &[u8]) -> Vec<Vec<u8>> {
     let mut words = Vec::new();
     for at in 0..name.len() {
         let (before, after) = (&name[..at], &name[at + 1..]);
         words.push([before, after].concat());
-        for &byte in RUN {
+        for &byte in bytes {
             words.push([before, &[byte], after].concat());
         }
     }
     for at in 0..=name.len() {
-        for &byte in RUN {
+        for &byte in bytes {
             words.push([&name[..at], &[byte], &name[at..]].concat());
         }
     }
