@@ -1,6 +1,7 @@
 //! The files that this program makes, in the layout of `rt fmt`.
 
 use crate::groups::{spelling, Index};
+use crate::latin1::Latin1;
 use crate::lists::{Entry, EventType};
 use crate::table::{Place, Table};
 use crate::template::{filled, Values};
@@ -12,7 +13,7 @@ pub struct File {
 }
 
 /// Each file and the text that its numbers are put into.
-const TEMPLATES: [(&str, &str); 8] = [
+const TEMPLATES: [(&str, &str); 9] = [
     (
         "crates/names/src/table.rt",
         include_str!("../templates/table.txt"),
@@ -45,17 +46,22 @@ const TEMPLATES: [(&str, &str); 8] = [
         "crates/names/proofs/rows/type_line/Proof.antt",
         include_str!("../templates/type_line.txt"),
     ),
+    (
+        "crates/keysyms/src/table.rt",
+        include_str!("../templates/latin1.txt"),
+    ),
 ];
 
 const MADE: &str = "Made by tools/name_table from the lists of crates/model/specs/Names.antt and \
     Details.antt: change those and run it again.";
 
-pub fn made(table: &Table) -> Vec<File> {
+pub fn made(table: &Table, latin1: &Latin1) -> Vec<File> {
     let mut values = Values::from([("made", MADE.to_string())]);
     add_places(&mut values, table);
     add_indexes(&mut values, table);
     add_rows(&mut values, table);
     add_proofs(&mut values, table);
+    add_latin1(&mut values, latin1);
     let file = |(path, template)| File {
         path,
         text: filled(template, &values),
@@ -147,6 +153,31 @@ fn add_proofs(values: &mut Values, table: &Table) {
     ]);
 }
 
+fn add_latin1(values: &mut Values, latin1: &Latin1) {
+    let Latin1 { entries, firsts } = latin1;
+    let names: Vec<&str> = entries.iter().map(|entry| entry.name.as_str()).collect();
+    let starts = latin1.starts();
+    // The last start is the end, which has no name.
+    let rows_of_starts = starts
+        .iter()
+        .zip(&names)
+        .map(|(start, name)| row(start, name));
+    let keysyms = entries
+        .iter()
+        .map(|entry| row(format!("{:#x}", entry.meaning), &entry.name));
+    let rows_of_firsts = firsts.iter().map(|&place| row(place, names[place]));
+    values.extend([
+        ("latin1_total", names.len().to_string()),
+        ("latin1_bytes", names.concat().len().to_string()),
+        ("latin1_start_total", starts.len().to_string()),
+        ("latin1_first_total", firsts.len().to_string()),
+        ("latin1_starts", lines(rows_of_starts)),
+        ("latin1_values", lines(keysyms)),
+        ("latin1_firsts", lines(rows_of_firsts)),
+        ("latin1_names", byte_string(&names)),
+    ]);
+}
+
 /// Joined without a line break at the end, which the template has.
 fn lines(lines: impl Iterator<Item = String>) -> String {
     lines.collect::<Vec<_>>().join("\n")
@@ -157,6 +188,12 @@ fn lines(lines: impl Iterator<Item = String>) -> String {
 /// An element of a constant row.
 fn row(number: impl std::fmt::Display, name: &str) -> String {
     format!("    {number}, // {name}")
+}
+
+/// The inside of a byte string with a name on each line. Line breaks and the blanks after them are no
+/// part of it.
+fn byte_string(names: &[&str]) -> String {
+    names.join("\\\n    ")
 }
 
 fn rows_of_places(places: &[Place]) -> String {
@@ -275,14 +312,19 @@ fn needs_of_line(line: &str, index: &Index) -> String {
 #[cfg(test)]
 mod tests {
     use super::*;
+    use crate::latin1::tests::latin1;
     use crate::table::tests::lists;
 
     #[test]
     fn every_file_is_filled() {
         let lists = lists();
         let table = Table::new(&lists).unwrap();
-        for file in made(&table) {
-            assert!(file.text.contains(MADE), "{}", file.path);
+        for file in made(&table, &latin1()) {
+            assert!(
+                file.text.contains("Made by tools/name_table"),
+                "{}",
+                file.path
+            );
             assert!(!file.text.contains('%'), "{}", file.path);
             assert!(file.text.ends_with('\n'), "{}", file.path);
         }
@@ -300,6 +342,25 @@ mod tests {
         assert_eq!(broken[0], "        b'A' => [");
         assert_eq!(broken[1], "            100,");
         assert_eq!(broken[17], "        ],");
+    }
+
+    #[test]
+    fn rows_of_latin1() {
+        let mut values = Values::new();
+        add_latin1(&mut values, &latin1());
+        let begins = |mark, start: &str| assert!(values[mark].starts_with(start), "{mark}");
+        begins("latin1_names", "Capital\\\n    n20\\\n    n21\\\n");
+        begins(
+            "latin1_starts",
+            "    0, // Capital\n    7, // n20\n    10, // n21\n",
+        );
+        begins("latin1_values", "    0xe9, // Capital\n    0x20, // n20\n");
+        begins("latin1_firsts", "    1, // n20\n    2, // n21\n");
+        let counts = ["total", "bytes", "start_total", "first_total"];
+        let counts = counts.map(|count| values[format!("latin1_{count}").as_str()].as_str());
+        assert_eq!(counts, ["193", "585", "194", "191"]);
+        assert!(values["latin1_names"].ends_with("nff\\\n    other"));
+        assert!(values["latin1_starts"].ends_with("    580, // other"));
     }
 
     #[test]

@@ -95,10 +95,10 @@ impl Lists {
 }
 
 /// Reads the name of an entry and what it stands for.
-type Form<T> = for<'a> fn(&Item<'a>) -> Result<(&'a str, T), String>;
+pub type Form<T> = for<'a> fn(&Item<'a>) -> Result<(&'a str, T), String>;
 
 /// The entries of a kind that has one list.
-fn kind<T>(source: &Source, list: &str, form: Form<T>) -> Result<Vec<Entry<T>>, String> {
+pub fn kind<T>(source: &Source, list: &str, form: Form<T>) -> Result<Vec<Entry<T>>, String> {
     distinct(source, entries(source, list, form)?)
 }
 
@@ -196,7 +196,7 @@ fn fixed(item: &Item, tokens: &[Token]) -> Result<Option<u8>, String> {
     }
 }
 
-fn value<'a>(item: &Item<'a>) -> Result<(&'a str, u32), String> {
+pub fn value<'a>(item: &Item<'a>) -> Result<(&'a str, u32), String> {
     match item.tokens[..] {
         [Word("value"), Text(name), Word(number)] => Ok((name, item.number(number)?)),
         _ => Err(unread(item)),

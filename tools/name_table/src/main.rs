@@ -1,8 +1,10 @@
-//! Makes the files of crates/names that follow from the lists of names. README.md says when to run it.
+//! Makes the files of crates/names and crates/keysyms that follow from the lists of names. README.md
+//! says when to run it.
 
 mod antt;
 mod files;
 mod groups;
+mod latin1;
 mod lists;
 mod table;
 mod template;
@@ -14,6 +16,7 @@ use std::path::Path;
 use std::process::ExitCode;
 
 use files::File;
+use latin1::Latin1;
 use lists::Lists;
 use table::Table;
 
@@ -56,7 +59,8 @@ fn main() -> ExitCode {
 fn run(task: Task, root: &Path) -> Result<usize, String> {
     let lists = Lists::read(root)?;
     let table = Table::new(&lists)?;
-    let made = files::made(&table);
+    let latin1 = Latin1::read(root)?;
+    let made = files::made(&table, &latin1);
     let mut changed = 0;
     for file in &made {
         if stands(file, root)? {
