@@ -149,6 +149,8 @@ uint64_t tt_merge(const uint8_t *old_table, size_t old_length,
  * of the text, 0 after a refusal. Refused with 1 (the table), 12, 1 (the
  * output). A refused write changes no byte, and bytes past the text are never
  * touched. A table that is not merged has no second text: lend any.
+ * A key is written by its name where it has one, as `a`, `Return` or `eacute`,
+ * and in hexadecimal otherwise; a keysym after `@` always in hexadecimal.
  */
 uint64_t tt_write(const uint8_t *table, size_t table_length,
                   const uint8_t *first, size_t first_length,

@@ -41,8 +41,8 @@ fn put_refusal(text: &[u8], number: u8, place: usize) {
     put(b"\n");
 }
 
-// The canonical text has less than 48,000 bytes, so 65,536 are always enough: for each of 256 events a type of 18 bytes, a count of
-// 3, a detail of 12 and a comma; for its modifiers, of which none grows more than from the two bytes `~s` to the seven of
+// The canonical text has less than 49,000 bytes, so 65,536 are always enough: for each of 256 events a type of 18 bytes, a count of
+// 3, a detail of 14 and a comma; for its modifiers, of which none grows more than from the two bytes `~s` to the seven of
 // `~Shift` and a blank, three and a half times the text's 8,192 bytes and three more an event; a colon and a newline for each of
 // 64 productions, a blank and two brackets for each of 128 calls, two quotes and a comma for each of 256 parameters; and the
 // names and parameters of calls, which are parts of the text.
