@@ -1,7 +1,6 @@
 -- The first name of each keysym, by computed tests over all Latin-1 keysyms; a larger one has no name here. Assumes nothing.
 use Prim.Native.Nat.{ℕ, suc, _+_, _-_, _≤_, _<_}
 use native.Mathlib.Omega.{arith}
-use native.Mathlib.Nat.{zero-add}
 use mathlib.Core.Path.{_≡_, refl}
 use mathlib.Core.Bool.{Bool, true, false}
 use mathlib.Core.List.{List, [], _∷_}
@@ -22,42 +21,46 @@ use Rattle.keysyms.specs.declared.search.NamePlace.{NamePlace}
 
 -- ---- Keysyms of one byte
 
-low-test : run firstPlace 0 32 ≡ run (λ v. NamePlace.Nowhere) 0 32
-unfolding run firstPlace latin1Entries
-low-test = refl
+-- what a test over a run of keysyms says of each
+at-each : (g : ℕ → NamePlace) (s n : ℕ) → run firstPlace s n ≡ run g s n → (v : ℕ) → s ≤ v → v < s + n → firstPlace v ≡ g v
+at-each g s n e v h k =
+    let q : s + (v - s) ≡ v = omega arith in
+    rw q at (run-at firstPlace g s n NamePlace.Nowhere e (v - s) (omega arith))
 
-pub none-low : (v : ℕ) → v < 0x20 → firstPlace v ≡ NamePlace.Nowhere
-none-low v h = rw zero-add at (run-at firstPlace (λ v. NamePlace.Nowhere) 0 32 NamePlace.Nowhere low-test v h)
+abbrev nowhere : ℕ → NamePlace
+nowhere v = NamePlace.Nowhere
 
 abbrev placeAt : ℕ → ℕ → NamePlace
 placeAt less v = NamePlace.At (getD firstPlaces (v - less) 0)
+
+low-test : run firstPlace 0 0x20 ≡ run nowhere 0 0x20
+unfolding run firstPlace latin1Entries
+low-test = refl
 
 first-test : run firstPlace 0x20 95 ≡ run (placeAt 0x20) 0x20 95
 unfolding run firstPlace firstPlaces latin1Entries
 first-test = refl
 
-pub first-low : (v : ℕ) → 0x20 ≤ v → v ≤ 0x7e → firstPlace v ≡ NamePlace.At (getD firstPlaces (v - 0x20) 0)
-first-low v h k =
-    let e : 0x20 + (v - 0x20) ≡ v = omega arith in
-    rw e at (run-at firstPlace (placeAt 0x20) 0x20 95 NamePlace.Nowhere first-test (v - 0x20) (omega arith))
-
-between-test : run firstPlace 0x7f 33 ≡ run (λ v. NamePlace.Nowhere) 0x7f 33
+between-test : run firstPlace 0x7f 33 ≡ run nowhere 0x7f 33
 unfolding run firstPlace latin1Entries
 between-test = refl
-
-pub none-between : (v : ℕ) → 0x7f ≤ v → v < 0xa0 → firstPlace v ≡ NamePlace.Nowhere
-none-between v h k =
-    let e : 0x7f + (v - 0x7f) ≡ v = omega arith in
-    rw e at (run-at firstPlace (λ v. NamePlace.Nowhere) 0x7f 33 NamePlace.Nowhere between-test (v - 0x7f) (omega arith))
 
 second-test : run firstPlace 0xa0 96 ≡ run (placeAt 65) 0xa0 96
 unfolding run firstPlace firstPlaces latin1Entries
 second-test = refl
 
-pub first-high : (v : ℕ) → 0xa0 ≤ v → v ≤ 0xff → firstPlace v ≡ NamePlace.At (getD firstPlaces (v - 65) 0)
-first-high v h k =
-    let e : 0xa0 + (v - 0xa0) ≡ v = omega arith in
-    rw e at (run-at firstPlace (placeAt 65) 0xa0 96 NamePlace.Nowhere second-test (v - 0xa0) (omega arith))
+module _ (v : ℕ) where
+  pub none-low : v < 0x20 → firstPlace v ≡ NamePlace.Nowhere
+  none-low h = at-each nowhere 0 0x20 low-test v (omega arith) (omega arith)
+
+  pub first-low : 0x20 ≤ v → v ≤ 0x7e → firstPlace v ≡ NamePlace.At (getD firstPlaces (v - 0x20) 0)
+  first-low h k = at-each (placeAt 0x20) 0x20 95 first-test v h (omega arith)
+
+  pub none-between : 0x7f ≤ v → v < 0xa0 → firstPlace v ≡ NamePlace.Nowhere
+  none-between h k = at-each nowhere 0x7f 33 between-test v h (omega arith)
+
+  pub first-high : 0xa0 ≤ v → v ≤ 0xff → firstPlace v ≡ NamePlace.At (getD firstPlaces (v - 65) 0)
+  first-high h k = at-each (placeAt 65) 0xa0 96 second-test v h (omega arith)
 
 -- ---- Larger ones
 

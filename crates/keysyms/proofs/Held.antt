@@ -1,5 +1,5 @@
 -- The table holds exactly the names of the rules' list. Assumes nothing.
-use Prim.Native.Nat.{ℕ, suc, _+_, _<_}
+use Prim.Native.Nat.{ℕ, suc, _<_}
 use native.Mathlib.Omega.{arith}
 use native.Mathlib.Nat.{zero-add}
 use mathlib.Core.Path.{_≡_, refl, sym, ap, _∙_}
@@ -13,7 +13,7 @@ use Rattle.model.specs.Names.{Entry, firstMeaning}
 use Rattle.model.specs.Latin1.{latin1Entries}
 use Rattle.model.specs.declared.names.DetailRead.{DetailRead}
 use Rattle.model.proofs.Sameness.{same-eq}
-use Rattle.names.specs.Table.{namesIn, meaningsIn}
+use Rattle.names.specs.Table.{namesIn}
 use Rattle.keysyms.specs.Table.{keysymTotal, keysymName, keysymMeaning, keysymValues}
 use Rattle.keysyms.specs.Rule.{latin1Named, Placed, KeysymTable}
 use Rattle.keysyms.specs.declared.search.NamePlace.{NamePlace}

@@ -5,7 +5,7 @@ use crate::table::TOTAL;
 use crate::table::VALUES;
 use model::names::DetailRead;
 ghost use mathlib.Core.Path.{_≡_};
-ghost use Prim.Native.Nat.{_≤_, _<_};
+ghost use Prim.Native.Nat.{_<_};
 ghost use lib.ListN.{getD};
 ghost use Rattle.model.specs.Lists.{isBefore};
 ghost use Rattle.keysyms.specs.Table.{keysymTotal, keysymName, nameBytes, nameStarts, keysymValues};

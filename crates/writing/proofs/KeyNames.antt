@@ -7,7 +7,7 @@ use mathlib.Core.Path.{_≡_, refl, sym, ap, _∙_}
 use mathlib.Core.Bool.{Bool, true, false, false≢true, true≢false, not, cond, _&&_}
 use mathlib.Core.List.{List, [], _∷_, _++_}
 use mathlib.Core.Option.{Option, none, some}
-use lib.Dec.{eqb, leb, ltb}
+use lib.Dec.{leb, ltb}
 use lib.ListN.{length, getD, drop, drop-of-length-le}
 use lib.Seq.{drop-cons}
 use borrow.Author.Tests.{eqb-true, leb-true, ltb-true, ltb-false, not-true}
@@ -21,7 +21,7 @@ use Rattle.model.specs.Latin1.{latin1Entries}
 use Rattle.model.specs.Details.{keysymEntries, keysymNames, buttonEntries, motionEntries, modeEntries, requestEntries}
 use Rattle.model.specs.Canonical.{hexadecimal, isValue, firstInOrder, firstNameOr, keysymText}
 use Rattle.model.specs.declared.names.DetailRead.{DetailRead}
-use Rattle.names.specs.Places.{buttonsAt, nameTotal}
+use Rattle.names.specs.Places.{buttonsAt}
 use Rattle.names.specs.Table.{meaningsIn, allNames, otherNames, nameRow, directiveEntries, detailValues, longestName}
 use Rattle.keysyms.specs.Table.{keysymTotal, keysymName, firstPlace, placeGiven}
 use Rattle.keysyms.specs.declared.search.NamePlace.{NamePlace}

@@ -18,7 +18,7 @@ ghost use Rattle.writing.specs.Overlay.{Put};
 ghost use Rattle.writing.specs.KeyNames.{keysymPlace};
 
 // The place of a keysym's name in the table of names, past all of them where it has none there.
-fn place_of(v: u32) -> usize
+fn keysym_place(v: u32) -> usize
     ensures { λ r. ⌜ r ≡ keysymPlace v ⌝ }
 {
     let mut i = table::KEYSYMS;
@@ -47,7 +47,7 @@ fn put_other(out: &mut [u8], at: usize, v: u32) -> usize
     requires { ⌜ (at ≤ 8900000000) × (firstPlace v ≡ NamePlace.Nowhere) ⌝ }
     ensures { λ r. ⌜ (Put (now (out .entry)) (now (out .exit)) at r (keysymText v)) × (r ≤ at + longestName) ⌝ }
 {
-    let place = place_of(v);
+    let place = keysym_place(v);
     if place < table::BUTTONS {
         return bytes::put_name(out, at, place);
     }

@@ -1,6 +1,6 @@
 -- `keysyms::first::first_place` meets its contract. Assumes nothing.
 use native.Mathlib.Omega.{arith}
-use mathlib.Core.Path.{_≡_, sym, ap, _∙_}
+use mathlib.Core.Path.{sym, ap, _∙_}
 use Rattle.keysyms.specs.declared.search.NamePlace.{NamePlace}
 use Rattle.keysyms.proofs.FirstPlaces.{none-low, first-low, none-between, first-high, none-high}
 use borrow.Author.Needs.{needs}

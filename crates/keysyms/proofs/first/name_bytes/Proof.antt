@@ -2,7 +2,6 @@
 use mathlib.Core.Path.{refl}
 use Rattle.model.specs.Latin1.{latin1Entries}
 use Rattle.keysyms.specs.Table.{runTogether, nameBytes}
-use borrow.Author.Needs.{needs}
 use Rattle.keysyms.proofs.first.name_bytes.Statement.{statement}
 use Rattle.keysyms.proofs.first.name_bytes.Tie as tie
 

@@ -1,5 +1,5 @@
 -- `keysyms::search::latin1_named` meets its contract. The constants are what the rules' list computes to: one test over the whole table. Assumes nothing.
-use mathlib.Core.Path.{_≡_, refl, sym, ap, _∙_}
+use mathlib.Core.Path.{refl, sym, ap, _∙_}
 use Rattle.model.specs.Latin1.{latin1Entries}
 use Rattle.model.specs.declared.names.DetailRead.{DetailRead}
 use Rattle.keysyms.specs.Table.{runTogether, startsFrom, nameBytes, nameStarts}

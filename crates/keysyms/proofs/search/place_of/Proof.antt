@@ -1,13 +1,9 @@
 -- `keysyms::search::place_of` meets its contract. Assumes nothing.
-use Prim.Native.Nat.{ℕ, _≤_, _<_}
+use Prim.Native.Nat.{ℕ}
 use native.Mathlib.Omega.{arith}
-use mathlib.Core.Path.{_≡_, sym, ap, _∙_}
-use mathlib.Core.Bool.{true, false}
+use mathlib.Core.Path.{sym, ap, _∙_}
 use mathlib.Core.List.{List}
 use Rattle.model.specs.Lists.{isBefore}
-use Rattle.keysyms.specs.Table.{keysymTotal, keysymName}
-use Rattle.keysyms.specs.declared.search.NamePlace.{NamePlace}
-use Rattle.keysyms.specs.Rule.{Placed}
 use Rattle.keysyms.proofs.Ranked.{past-all, past-one, at-one}
 use borrow.Author.Needs.{needs}
 use Rattle.keysyms.proofs.search.place_of.Statement.{statement}

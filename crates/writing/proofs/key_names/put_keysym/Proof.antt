@@ -1,5 +1,4 @@
 -- `writing::key_names::put_keysym` meets its contract. Assumes nothing.
-use native.Mathlib.Omega.{arith}
 use mathlib.Core.Path.{sym, _∙_}
 use Rattle.writing.proofs.Laws.{put-as}
 use Rattle.writing.proofs.KeyNames.{latin1-place, latin1-written}

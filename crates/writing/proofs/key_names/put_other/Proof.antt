@@ -9,8 +9,8 @@ use borrow.Author.Needs.{needs}
 use Rattle.writing.proofs.key_names.put_other.Statement.{statement}
 use Rattle.writing.proofs.key_names.put_other.Tie as tie
 
-place-of-requires : tie.Need-place-of-requires
-place-of-requires c κs = search needs
+keysym-place-requires : tie.Need-keysym-place-requires
+keysym-place-requires c κs = search needs
 
 put-name-requires : tie.Need-put-name-requires
 put-name-requires c κs = (search needs, omega (arith, c .before .if1 .taken))
@@ -20,7 +20,7 @@ same-length c = search needs
 
 returns : tie.Need-returns
 returns c =
-    let place = c .before .before .before .before .before .place-of in
+    let place = c .before .before .before .before .before .keysym-place in
     let e : nameRow (place .result) ≡ keysymText (c .before .before .before .before .before .before .before .args .v) =
     ap nameRow (place .ensures) ∙ row-written (c .before .before .before .before .before .before .before .args .v) (rw (place .ensures) at (c .before .before .before .before .if1 .taken))
     in
@@ -34,7 +34,7 @@ same-length-2 c = search needs
 
 returns-2 : tie.Need-returns-2
 returns-2 c =
-    let place = c .before .before .before .before .before .place-of in
+    let place = c .before .before .before .before .before .keysym-place in
     let e = number-written (c .before .before .before .before .before .before .before .args .v) (c .before .before .before .before .before .before .before .pre .1) (rw (place .ensures) at (c .before .before .before .before .if1 .left)) in
     (put-as e (c .before .before .put-hexadecimal .ensures .0), omega (arith, c .before .before .put-hexadecimal .ensures .1))
 
@@ -42,7 +42,7 @@ pub put-other-spec : {M : Type 1} → statement M
 put-other-spec =
     tie.close
     (tie.spec
-    place-of-requires
+    keysym-place-requires
     put-name-requires
     same-length
     returns

@@ -1,6 +1,5 @@
--- `writing::key_names::place_of` meets its contract. The loop's invariant: what is left of the list gives the place. Assumes nothing.
-use Prim.Native.Nat.{ℕ, _-_, _≤_, _<_}
-use native.Mathlib.Omega.{arith}
+-- `writing::key_names::keysym_place` meets its contract. The loop's invariant: what is left of the list gives the place. Assumes nothing.
+use Prim.Native.Nat.{_-_, _≤_, _<_}
 use mathlib.Core.Path.{_≡_, refl, sym, ap, _∙_}
 use mathlib.Core.Bool.{true, false}
 use lib.ListN.{length, drop}
@@ -13,8 +12,8 @@ use Rattle.names.specs.Table.{meaningsIn}
 use Rattle.writing.specs.KeyNames.{placeOrPast, keysymPlace}
 use Rattle.writing.proofs.KeyNames.{value-here, value-later, value-nowhere, meaningAt, meanings-total, meaning-value}
 use borrow.Author.Needs.{needs}
-use Rattle.writing.proofs.key_names.place_of.Statement.{statement}
-use Rattle.writing.proofs.key_names.place_of.Tie as tie
+use Rattle.writing.proofs.key_names.keysym_place.Statement.{statement}
+use Rattle.writing.proofs.key_names.keysym_place.Tie as tie
 
 abbrev Inv-loop : tie.InvT-loop
 Inv-loop v i₀ i =
@@ -61,8 +60,8 @@ returns-2 c =
     let h : length (meaningsIn keysymEntries) ≤ i = rw meanings-total (c .loop-test .left) in
     sym (c .before .loop .inv .1 ∙ ap placeOrPast (value-nowhere (isValue v) (meaningsIn keysymEntries) i h))
 
-pub place-of-spec : {M : Type 1} → statement M
-place-of-spec =
+pub keysym-place-spec : {M : Type 1} → statement M
+keysym-place-spec =
     tie.close
     (tie.spec
     Inv-loop
