@@ -25,7 +25,7 @@ use Rattle.tables.proofs.Lists.{length-flat, inAll-flat}
 use Rattle.tables.proofs.Images.{Room}
 use Rattle.tables.proofs.Facts.{limit-facts, events-in-all, calls-in-all, parameters-in-all}
 use Rattle.tables.proofs.Written as written
-use Rattle.compiler.specs.Puts.{putWritten, putCalls, putLine}
+use Rattle.compiler.specs.Puts.{putWritten, putCalls, putRest, putLine}
 use Rattle.compiler.specs.Reads.{EventsFit, CallsFit, LineFits}
 use Rattle.compiler.specs.Held.{soFar, held}
 use Rattle.compiler.proofs.Appended.{moreEvents, moreCalls, kept-length, put-events, put-calls, so-far-more}
@@ -253,7 +253,7 @@ module _ (ps : List Production) (base : ℕ) (l : List ℕ) (p : Production) (g 
         ∙ ap (λ (y : Entries). image y ++ rest) (so-far-more ps p)
 
     pub line-held : putLine base l (totalsOf ps) (heldLine (callsStart l) p) (held ps rest) ≡ held (ps ++ (p ∷ [])) rest
-    unfolding putLine held heldLine
+    unfolding putLine putRest held heldLine
     line-held =
         ap
         (λ (o : List ℕ).

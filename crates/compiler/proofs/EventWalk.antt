@@ -3,8 +3,10 @@ use Prim.Native.Nat.{ℕ, suc, pred, _+_, _≤_, _<_}
 use native.Mathlib.Omega.{arith}
 use native.Mathlib.Nat.{add-zero}
 use mathlib.Core.Path.{_≡_, refl, sym, ap, _∙_, subst}
+use mathlib.Core.Bool.{Bool, false, _||_}
 use mathlib.Core.List.{List, [], _∷_, _++_}
 use lib.ListN.{length, length-append}
+use Rattle.model.specs.Bytes.{byteAt}
 use Rattle.model.specs.Events.{WrittenEvent, key, KeyChar, EventsRead, events, oneMoreKey, keyAt, keysFrom, eventsAt, afterEventAt, joinEvents, afterEvents, leftNext, leftFrom, leftSide}
 use Rattle.model.specs.Judging.{judged, judgedMark}
 use Rattle.model.specs.declared.scan.KeyRead.{KeyRead}
@@ -14,9 +16,12 @@ use Rattle.scanner.proofs.Ranges.{KeyIn, key-in, AfterIn, after-in}
 use Rattle.event_scanner.proofs.EventRanges.{EventsIn, events-in}
 use Rattle.event_scanner.proofs.KeyCounts.{keys-step}
 use Rattle.event_scanner.proofs.Walks.{events-step}
-use Rattle.compiler.specs.Puts.{putJudged, putWritten}
-use Rattle.compiler.specs.Reads.{EventsFit, walkOver}
-use Rattle.compiler.specs.declared.events.Walk.{Walk}
+use Rattle.lines.specs.declared.left.StepJudged.{StepJudged}
+use Rattle.lines.specs.Left.{stepJudged}
+use Rattle.lines.proofs.Turns.{LeftAt, left-start, left-comma}
+use Rattle.compiler.specs.Puts.{putJudged, putWritten, putFitting}
+use Rattle.compiler.specs.Reads.{EventsFit, EventsPut}
+use Rattle.compiler.proofs.EventHere.{put-all, step-length}
 
 -- ---- Events written one after the other
 
@@ -200,33 +205,48 @@ module _ (l target out : List ℕ) (k at : ℕ) (g : EventsLeft l target out k a
       let s = events-step (g .f) l at (eventsAt l at) (omega (arith, g .enough, g .inside)) refl in
       events-after (eventsAt l at) refl (events-in l at (g .inside)) (sym s ∙ g .read)
 
-pub events-here-of : {l target out : List ℕ} {k at : ℕ} → EventsLeft l target out k at → EventsHere l target out k at
-events-here-of {l} {target} {out} {k} {at} g = events-here l target out k at g
-
-pub events-fit : {l target out : List ℕ} {k at : ℕ} → EventsLeft l target out k at → EventsFit (eventsAt l at) k
-events-fit {l} {target} {out} {k} {at} g =
+-- the walk after the events at a position were judged, and written where they fit
+pub after-step : {l target out new : List ℕ} {k at a b next : ℕ} {one : Bool} {s : AfterEvent} (g : EventsLeft l target out k at)
+    → stepJudged (eventsAt l at) ≡ StepJudged.Keep a b one next → new ≡ putFitting out k (eventsIn (eventsAt l at))
+    → afterEventAt l next ≡ s → AfterHere l target new (k + a) next s
+after-step {l} {target} {out} {new} {k} {at} {a} {b} {next} {one} {s} g e w q =
     let h = events-here l target out k at g in
-    subst (λ (r : EventsRead). EventsFit r k) (sym (h .read)) (h .room)
+    let n = step-length (h .es) (h .next) a b one next (ap stepJudged (sym (h .read)) ∙ e) in
+    let o : new ≡ putWritten out k (h .es) =
+    w ∙ ap (λ (x : EventsRead). putFitting out k (eventsIn x)) (h .read) ∙ put-all out k (h .es) (h .room) in
+    subst (AfterHere l target new (k + a) next) q
+    (subst (λ (p : ℕ). AfterHere l target new (k + a) p (afterEventAt l p)) (n .1)
+    (subst (λ (m : ℕ). AfterHere l target new (k + m) (h .next) (afterEventAt l (h .next))) (sym (n .0))
+    (subst (λ (x : List ℕ). AfterHere l target x (k + length (h .es)) (h .next) (afterEventAt l (h .next))) (sym o) (h .after))))
 
--- the walk after the events at a position were written, at the value that a match found
-pub after-told : {l target out new : List ℕ} {k at : ℕ} (g : EventsLeft l target out k at) {w : Walk} {r s : AfterEvent}
-    → w ≡ walkOver (eventsAt l at) k → new ≡ putWritten out k (eventsIn (eventsAt l at)) → r ≡ afterEventAt l (w .at) → r ≡ s
-    → AfterHere l target new (w .events) (w .at) s
-after-told {l} {target} {out} {new} {k} {at} g {w} {r} {s} e b p q =
-    let h = events-here l target out k at g in
-    let v : w ≡ record { at = h .next; events = k + length (h .es) } = e ∙ ap (λ (x : EventsRead). walkOver x k) (h .read) in
-    let o : new ≡ putWritten out k (h .es) = b ∙ ap (λ (x : EventsRead). putWritten out k (eventsIn x)) (h .read) in
-    let a : AfterHere l target new (k + length (h .es)) (h .next) (afterEventAt l (h .next)) =
-    subst (λ (x : List ℕ). AfterHere l target x (k + length (h .es)) (h .next) (afterEventAt l (h .next))) (sym o) (h .after) in
-    let c : AfterHere l target new (w .events) (w .at) (afterEventAt l (w .at)) =
-    subst (λ (x : Walk). AfterHere l target new (x .events) (x .at) (afterEventAt l (x .at))) (sym v) a in
-    subst (AfterHere l target new (w .events) (w .at)) (sym p ∙ q) c
+-- ---- Judging and writing at once
 
--- where the events at a position end
-pub walk-in : {l target out : List ℕ} {k at : ℕ} (g : EventsLeft l target out k at) {w : Walk} → w ≡ walkOver (eventsAt l at) k
-    → (at < w .at) × (w .at ≤ length l)
-walk-in {l} {target} {out} {k} {at} g {w} e =
-    let h = events-here l target out k at g in
-    let v : w ≡ record { at = h .next; events = k + length (h .es) } = e ∙ ap (λ (x : EventsRead). walkOver x k) (h .read) in
-    let a : w .at ≡ h .next = ap (λ (x : Walk). x .at) v in
-    (omega (arith, h .past), omega (arith, h .inside))
+-- at a position, after n events from event `first` on that are m elements, or after one that is crowded
+pub record Walking (l before : List ℕ) (first : ℕ) (out : List ℕ) (at : ℕ) (o : Bool) (n m : ℕ) : Type 0 where
+  pub left : LeftAt l at o n m
+  pub put : EventsFit (leftSide l) first → EventsLeft l (putWritten before first (eventsIn (leftSide l))) out (first + n) at
+
+pub walking-start : (l out : List ℕ) (first : ℕ) → Walking l out first out 0 false 0 0
+walking-start l out first =
+    record {
+      left = left-start l;
+      put = λ h.
+          subst (λ (k : ℕ). EventsLeft l (putWritten out first (eventsIn (leftSide l))) out k 0) (sym (add-zero first)) (events-start l out first h);
+    }
+
+module _ {l before : List ℕ} {first : ℕ} {out : List ℕ} {at : ℕ} {o : Bool} {n m : ℕ} (g : Walking l before first out at o n m) where
+  module _ {new : List ℕ} {a b next : ℕ} {one : Bool} (e : stepJudged (eventsAt l at) ≡ StepJudged.Keep a b one next)
+      (w : new ≡ putFitting out (first + n) (eventsIn (eventsAt l at))) where
+    pub walking-colon : (p : ℕ) → afterEventAt l next ≡ AfterEvent.Colon p → EventsPut l first before new
+    walking-colon p q h = sym (after-step (g .put h) e w q)
+
+    pub walking-comma : (p : ℕ) → afterEventAt l next ≡ AfterEvent.Comma p → ((k : ℕ) → byteAt l k < 256)
+        → Walking l before first new p (one || o) (n + a) (m + b)
+    walking-comma p q bytes =
+        let s : first + n + a ≡ first + (n + a) = omega arith in
+        record {
+          left = left-comma l at o n m (g .left) a b one next e bytes p q;
+          put = λ h.
+              subst (λ (k : ℕ). EventsLeft l (putWritten before first (eventsIn (leftSide l))) new k p) s
+              (after-step (g .put h) e w q .1);
+        }

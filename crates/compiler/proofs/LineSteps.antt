@@ -11,21 +11,28 @@ use Rattle.model.specs.Lists.{part}
 use Rattle.model.specs.Lines.{lineEnd, lineAt, isBlankLine, directiveOf, directiveAt}
 use Rattle.model.specs.Compiling.{passesLimit, LineOutcome, add, lineOutcome}
 use Rattle.model.specs.Tables.{Production}
+use Rattle.model.specs.Events.{leftSide}
+use Rattle.model.specs.Calls.{rightSide}
 use Rattle.model.specs.declared.scan.Class.{Class}
 use Rattle.model.specs.declared.events.Directive.{Directive}
+use Rattle.event_scanner.specs.LeftSide.{leftOf}
+use Rattle.event_scanner.specs.declared.left.LeftRead.{LeftRead}
+use Rattle.call_scanner.specs.RightSide.{rightOf}
+use Rattle.call_scanner.specs.declared.right.RightRead.{RightRead}
 use Rattle.scanner.proofs.Runs.{run-from, run-in}
 use Rattle.lines.specs.declared.totals.Totals.{Totals}
 use Rattle.lines.specs.declared.totals.Line.{Line}
+use Rattle.lines.specs.declared.left.LeftJudged.{LeftJudged}
 use Rattle.lines.specs.declared.line.LineJudged.{LineJudged}
 use Rattle.lines.specs.Totals.{totalsOf, heldLine, withLine, TotalsIn}
-use Rattle.lines.specs.Line.{callsStart, judgedOf}
+use Rattle.lines.specs.Line.{callsStart, judgedOf, rightVerdict, sidesVerdict}
 use Rattle.lines.proofs.Sums.{totals-more, totals-in}
 use Rattle.tables.specs.Layout.{image, tableLength}
 use Rattle.tables.proofs.Images.{length-image}
-use Rattle.compiler.specs.Puts.{putLine}
-use Rattle.compiler.specs.Reads.{LineFits}
+use Rattle.compiler.specs.Puts.{putRest, putLine}
+use Rattle.compiler.specs.Reads.{EventsPut, AddedPut, LineFits}
 use Rattle.compiler.specs.Held.{soFar, held}
-use Rattle.compiler.specs.Progress.{Underway, done, doneWith, heldWith, plainDone, plainHeld}
+use Rattle.compiler.specs.Progress.{Underway, LineStep, going, stopped, outcomeStep, plainStep, stepDone, StepHeld}
 use Rattle.compiler.specs.declared.line.LineDone.{LineDone}
 use Rattle.compiler.proofs.AddedLine.{LineAdds, line-adds, line-fits, line-held, so-far-room}
 
@@ -54,23 +61,48 @@ directive-later text at e = rw (ne-eqb at 0 e)
 
 -- ---- What a line that is no directive comes to
 
-module _ (d : Directive) (ps : List Production) (rest : List ℕ) (base : ℕ) (l : List ℕ) where
-  pub plain-blank : isBlankLine l ≡ true → (done d ps ≡ plainDone d ps base l) × (held ps rest ≡ plainHeld ps rest base l)
-  unfolding plainDone plainHeld
-  plain-blank e = (rw e, rw e)
+module _ (d : Directive) (ps : List Production) (base : ℕ) (l : List ℕ) where
+  pub plain-blank : isBlankLine l ≡ true → plainStep d ps base l ≡ going d ps
+  unfolding plainStep
+  plain-blank e = rw e
 
-  outcome-is : (o : LineOutcome) → isBlankLine l ≡ false → lineOutcome ps base l ≡ o
-      → (doneWith d ps o ≡ plainDone d ps base l) × (heldWith ps rest o ≡ plainHeld ps rest base l)
-  unfolding plainDone plainHeld
-  outcome-is o e q = (rw (e, q), rw (e, q))
+  outcome-is : (o : LineOutcome) → isBlankLine l ≡ false → lineOutcome ps base l ≡ o → plainStep d ps base l ≡ outcomeStep d ps o
+  unfolding plainStep
+  outcome-is o e q = rw (e, q)
 
-  pub plain-refused : (n : ℕ) → isBlankLine l ≡ false → lineOutcome ps base l ≡ LineOutcome.refuse n
-      → (LineDone.Refused n ≡ plainDone d ps base l) × (held ps rest ≡ plainHeld ps rest base l)
+  pub plain-refused : (n : ℕ) → isBlankLine l ≡ false → lineOutcome ps base l ≡ LineOutcome.refuse n → plainStep d ps base l ≡ stopped n
   plain-refused n e q = outcome-is (LineOutcome.refuse n) e q
 
   pub plain-added : (p : Production) → isBlankLine l ≡ false → lineOutcome ps base l ≡ add p
-      → (done d (ps ++ (p ∷ [])) ≡ plainDone d ps base l) × (held (ps ++ (p ∷ [])) rest ≡ plainHeld ps rest base l)
+      → plainStep d ps base l ≡ going d (ps ++ (p ∷ []))
   plain-added p e q = outcome-is (add p) e q
+
+-- an answer and bytes that are those of a step
+abbrev pub Stepped : List ℕ → LineDone → List ℕ → LineStep → Type 0
+Stepped rest r out x = (r ≡ stepDone x) × StepHeld x rest out
+
+pub stepped : (rest : List ℕ) (r : LineDone) (out : List ℕ) {x y : LineStep} → y ≡ x → Stepped rest r out x → Stepped rest r out y
+stepped rest r out e h = subst (Stepped rest r out) (sym e) h
+
+-- ---- The events of a line that is judged
+
+module _ (l : List ℕ) (k : ℕ) (before after : List ℕ) where
+  pub all-put : (r : LineJudged) → EventsPut l k before after → AddedPut l k before after r
+  all-put (LineJudged.Refuse n) h = tt
+  all-put (LineJudged.Add line) h = h
+
+  -- a line with an event that is refused adds nothing
+  pub none-put : (t : Totals) (n : ℕ) (r : LineJudged) → r ≡ sidesVerdict t l (LeftJudged.Refuse n) (leftOf (leftSide l))
+      → AddedPut l k before after r
+  none-put t n r e = subst (AddedPut l k before after) (sym e) (sides (leftOf (leftSide l)))
+    where
+      right : (next : ℕ) (x : RightRead) → AddedPut l k before after (rightVerdict t next (LeftJudged.Refuse n) x)
+      right next RightRead.Broken = tt
+      right next (RightRead.Right count parameters most) = tt
+
+      sides : (x : LeftRead) → AddedPut l k before after (sidesVerdict t l (LeftJudged.Refuse n) x)
+      sides LeftRead.Broken = tt
+      sides (LeftRead.Left next) = right next (rightOf (rightSide l next))
 
 -- ---- The bytes so far
 
@@ -127,9 +159,13 @@ module _ (t : Totals) (out : List ℕ) (u : Underway t out) where
     pub added-in : TotalsIn (withLine t line)
     added-in = subst TotalsIn (sym added-totals) (totals-in (u .ps ++ (a .p ∷ [])) (adds .passes))
 
-    pub added-held : (new : List ℕ) → new ≡ putLine base l t line out → new ≡ held (u .ps ++ (a .p ∷ [])) (u .rest)
-    added-held new e =
+    -- the events are written first, and then the rest
+    pub added-held : (mid new : List ℕ) → EventsPut l (t .events) out mid → new ≡ putRest base l t line mid
+        → new ≡ held (u .ps ++ (a .p ∷ [])) (u .rest)
+    unfolding putLine
+    added-held mid new w e =
         e
+        ∙ ap (putRest base l t line) (w (added-fits .events))
         ∙ ap (putLine base l t line) (u .bytes)
         ∙ ap (λ (s : Totals). putLine base l s line (held (u .ps) (u .rest))) (u .totals)
         ∙ ap (λ (n : Line). putLine base l (totalsOf (u .ps)) n (held (u .ps) (u .rest))) (a .is)

@@ -21,29 +21,30 @@ pub record Underway (t : Totals) (out : List ℕ) : Type 0 where
   pub kept : passesLimit ps ≡ false
   pub bytes : out ≡ held ps rest
 
-abbrev pub done : Directive → List Production → LineDone
-done d ps = LineDone.Done (record { directive = d; totals = totalsOf ps })
+-- what a line comes to: the directive and the productions after it, or a number
+pub data LineStep : Type 0 where
+  going : Directive → List Production → LineStep
+  stopped : ℕ → LineStep
 
-abbrev pub doneWith : Directive → List Production → LineOutcome → LineDone
-doneWith d ps (add p) = done d (ps ++ (p ∷ []))
-doneWith d ps (LineOutcome.refuse n) = LineDone.Refused n
-
-abbrev pub heldWith : List Production → List ℕ → LineOutcome → List ℕ
-heldWith ps rest (add p) = held (ps ++ (p ∷ [])) rest
-heldWith ps rest (LineOutcome.refuse n) = held ps rest
+abbrev pub outcomeStep : Directive → List Production → LineOutcome → LineStep
+outcomeStep d ps (add p) = going d (ps ++ (p ∷ []))
+outcomeStep d ps (LineOutcome.refuse n) = stopped n
 
 -- a line that is no directive
-unfoldable pub plainDone : Directive → List Production → ℕ → List ℕ → LineDone
-plainDone d ps base l = cond (isBlankLine l) (done d ps) (doneWith d ps (lineOutcome ps base l))
-
-unfoldable pub plainHeld : List Production → List ℕ → ℕ → List ℕ → List ℕ
-plainHeld ps rest base l = cond (isBlankLine l) (held ps rest) (heldWith ps rest (lineOutcome ps base l))
+unfoldable pub plainStep : Directive → List Production → ℕ → List ℕ → LineStep
+plainStep d ps base l = cond (isBlankLine l) (going d ps) (outcomeStep d ps (lineOutcome ps base l))
 
 -- a line, a directive or not
-abbrev pub lineDone : Option Directive → Directive → List Production → ℕ → List ℕ → LineDone
-lineDone (some e) d ps base l = done e ps
-lineDone none d ps base l = plainDone d ps base l
+abbrev pub lineStep : Option Directive → Directive → List Production → ℕ → List ℕ → LineStep
+lineStep (some e) d ps base l = going e ps
+lineStep none d ps base l = plainStep d ps base l
 
-abbrev pub lineHeld : Option Directive → List Production → List ℕ → ℕ → List ℕ → List ℕ
-lineHeld (some e) ps rest base l = held ps rest
-lineHeld none ps rest base l = plainHeld ps rest base l
+-- as it is answered
+abbrev pub stepDone : LineStep → LineDone
+stepDone (going d ps) = LineDone.Done (record { directive = d; totals = totalsOf ps })
+stepDone (stopped n) = LineDone.Refused n
+
+-- the bytes after it; those after a refusal are cleared, whatever events they hold
+abbrev pub StepHeld : LineStep → List ℕ → List ℕ → Type 0
+StepHeld (going d ps) rest out = out ≡ held ps rest
+StepHeld (stopped n) rest out = Unit

@@ -1,7 +1,8 @@
 -- Bytes with entries written one after the other.
 use Prim.Native.Nat.{ℕ, _+_}
-use mathlib.Core.Bool.{false}
+use mathlib.Core.Bool.{false, cond}
 use mathlib.Core.List.{List, [], _∷_, map}
+use lib.Dec.{leb}
 use lib.ListN.{length}
 use Rattle.model.specs.Events.{WrittenEvent, leftSide}
 use Rattle.model.specs.Calls.{rightSide}
@@ -28,6 +29,10 @@ unfoldable pub putWritten : List ℕ → ℕ → List WrittenEvent → List ℕ
 putWritten out k [] = out
 putWritten out k (e ∷ es) = putWritten (putJudged out k (judged e)) (k + 1) es
 
+-- the same where the table has room for all of them
+unfoldable pub putFitting : List ℕ → ℕ → List WrittenEvent → List ℕ
+putFitting out k es = cond (leb (k + length es) 256) (putWritten out k es) out
+
 -- parameters from k on
 unfoldable pub putParameters : List ℕ → ℕ → List Span → List ℕ
 putParameters out k [] = out
@@ -42,18 +47,18 @@ unfoldable pub putCalls : List ℕ → ℕ → ℕ → List Call → List ℕ
 putCalls out n p [] = out
 putCalls out n p (c ∷ cs) = putCalls (putWhole out n p c) (n + 1) (p + length (c .parameters)) cs
 
--- a line that begins at `base`, after productions with these totals
-unfoldable pub putLine : ℕ → List ℕ → Totals → Line → List ℕ → List ℕ
-putLine base l t line out =
+-- the calls of a line that begins at `base`, and its production, after productions with these totals
+unfoldable pub putRest : ℕ → List ℕ → Totals → Line → List ℕ → List ℕ
+putRest base l t line out =
     putProduction
-    (putCalls
-    (putWritten out (t .events) (eventsIn (leftSide l)))
-    (t .calls)
-    (t .parameters)
-    (map (callOf base) (callsIn (rightSide l (line .right)))))
+    (putCalls out (t .calls) (t .parameters) (map (callOf base) (callsIn (rightSide l (line .right)))))
     (t .productions)
     (line .events)
     (line .calls)
+
+-- all of the line
+unfoldable pub putLine : ℕ → List ℕ → Totals → Line → List ℕ → List ℕ
+putLine base l t line out = putRest base l t line (putWritten out (t .events) (eventsIn (leftSide l)))
 
 -- the header of a table of one text
 unfoldable pub putHeader : List ℕ → Directive → Totals → (text : ℕ) → List ℕ

@@ -1,25 +1,44 @@
--- What the second walk over a line relies on: what it meets is in the grammar, and fits what is left of the table.
+-- What the walks over a line come to and rely on: what they meet is in the grammar, and fits what is left of the table.
 use Prim.Native.Nat.{ℕ, _+_, _≤_, _<_}
+use mathlib.Core.Path.{_≡_}
 use mathlib.Core.List.{List, []}
 use lib.ListN.{length}
 use Rattle.model.specs.Lists.{inAll}
 use Rattle.model.specs.Events.{EventsRead, events, leftSide}
 use Rattle.model.specs.Calls.{Parameters, parameters, CallsRead, calls, rightSide}
 use Rattle.model.specs.declared.scan.Span.{Span}
+use Rattle.event_scanner.specs.Spans.{eventsIn}
+use Rattle.event_scanner.specs.LeftSide.{leftOf}
+use Rattle.event_scanner.specs.declared.left.LeftRead.{LeftRead}
 use Rattle.call_scanner.specs.RightSide.{parameterNumber}
+use Rattle.lines.specs.Left.{IsRead, sideJudged}
+use Rattle.lines.specs.declared.left.LeftJudged.{LeftJudged}
+use Rattle.lines.specs.declared.line.LineJudged.{LineJudged}
 use Rattle.lines.specs.declared.totals.Totals.{Totals}
 use Rattle.lines.specs.declared.totals.Line.{Line}
-use Rattle.compiler.specs.declared.events.Walk.{Walk}
+use Rattle.compiler.specs.declared.events.LeftWritten.{LeftWritten}
+use Rattle.compiler.specs.Puts.{putWritten}
 
 -- from event k on
 abbrev pub EventsFit : EventsRead → ℕ → Type 0
 EventsFit EventsRead.broken k = ⊥
 EventsFit (events es next) k = k + length es ≤ 256
 
--- where reading goes on, and which event is next
-abbrev pub walkOver : EventsRead → ℕ → Walk
-walkOver EventsRead.broken k = record { at = 0; events = k }
-walkOver (events es next) k = record { at = next; events = k + length es }
+-- the bytes hold the events of a line from event k on, where they fit
+abbrev pub EventsPut : (l : List ℕ) (k : ℕ) (before after : List ℕ) → Type 0
+EventsPut l k before after = EventsFit (leftSide l) k → after ≡ putWritten before k (eventsIn (leftSide l))
+
+-- what the walk over a left side came to, with its events from event k on
+abbrev pub LeftDone : (l : List ℕ) (k : ℕ) (before after : List ℕ) → LeftWritten → Type 0
+LeftDone l k before after LeftWritten.Broken = leftOf (leftSide l) ≡ LeftRead.Broken
+LeftDone l k before after (LeftWritten.Refuse n) = IsRead (leftSide l) → sideJudged (leftSide l) ≡ LeftJudged.Refuse n
+LeftDone l k before after (LeftWritten.Read left next) =
+    (leftOf (leftSide l) ≡ LeftRead.Left next) × (sideJudged (leftSide l) ≡ left) × EventsPut l k before after
+
+-- a line that adds a production has its events in the bytes
+abbrev pub AddedPut : (l : List ℕ) (k : ℕ) (before after : List ℕ) → LineJudged → Type 0
+AddedPut l k before after (LineJudged.Refuse n) = Unit
+AddedPut l k before after (LineJudged.Add line) = EventsPut l k before after
 
 -- from parameter k on
 abbrev pub ParametersFit : Parameters → ℕ → Type 0

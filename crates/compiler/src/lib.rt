@@ -1,4 +1,5 @@
-// The compiler: from text to a table in lent memory. Each line is judged whole before anything of it is written.
+// The compiler: from text to a table in lent memory. The events of a line are written as they are judged, the rest of it once the
+// whole line is judged; a refusal clears the table.
 mod calls;
 mod events;
 mod line;
@@ -32,6 +33,9 @@ pub fn compile(text: &[u8], table: &mut [u8]) -> Compiled
     }
     match first_bad_byte(text) {
         BadByte::At(place) => refuse(table, 3, place),
-        BadByte::Absent => compile_lines(text, table),
+        BadByte::Absent => {
+            let end = TABLE_LENGTH;
+            compile_lines(text, &mut table[0..end])
+        }
     }
 }

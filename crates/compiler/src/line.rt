@@ -1,8 +1,11 @@
-// One line of a text: judged, and only then written.
+// One line of a text: its events are judged and written, then it is judged whole, and then the rest of it is written.
 use crate::calls::write_calls;
-use crate::events::write_events;
+use crate::events::LeftWritten;
+use crate::events::write_left;
+use lines::left::LeftJudged;
 use lines::line::LineJudged;
-use lines::line::judge_line;
+use lines::line::judge_right;
+use lines::line::judge_sides;
 use lines::totals::Line;
 use lines::totals::Totals;
 use lines::totals::with_line;
@@ -11,13 +14,20 @@ use model::events::Directive;
 use scanner::lines::is_blank_line;
 use tables::write::put_production;
 ghost use mathlib.Core.Path.{_≡_};
-ghost use Prim.Native.Nat.{_+_, _≤_};
+ghost use mathlib.Core.Bool.{false};
+ghost use mathlib.Core.List.{List};
+ghost use Prim.Native.Nat.{ℕ, _+_, _≤_};
 ghost use lib.ListN.{length};
+ghost use Rattle.model.specs.Limits.{textLimit};
+ghost use Rattle.model.specs.Tables.{Production};
+ghost use Rattle.model.specs.Compiling.{passesLimit, lineOutcome};
 ghost use Rattle.model.specs.Lines.{lineEnd, lineAt, directiveAt};
 ghost use Rattle.lookup.specs.Find.{directiveGiven};
-ghost use Rattle.compiler.specs.Puts.{putLine};
-ghost use Rattle.compiler.specs.Reads.{LineFits};
-ghost use Rattle.compiler.specs.Progress.{Underway, plainDone, plainHeld, lineDone, lineHeld};
+ghost use Rattle.lines.specs.Totals.{totalsOf, TotalsIn};
+ghost use Rattle.lines.specs.Line.{callsStart, judgedOf};
+ghost use Rattle.compiler.specs.Puts.{putRest};
+ghost use Rattle.compiler.specs.Reads.{LineFits, AddedPut};
+ghost use Rattle.compiler.specs.Progress.{Underway, plainStep, lineStep, stepDone, StepHeld};
 ghost use Rattle.tables.specs.Layout.{tableLength};
 
 // What the lines so far came to.
@@ -43,12 +53,25 @@ pub fn directive_at(text: &[u8], at: usize, end: usize) -> FirstLine
     FirstLine::Absent
 }
 
-// A line that adds a production, after productions with these totals.
+// A line that is not blank: its events are written as they are judged, after productions with these totals.
+pub fn judge_line(l: &[u8], out: &mut [u8], t: Totals) -> LineJudged
+    requires { ⌜ ((length (now l) ≤ textLimit) × (tableLength ≤ length (now out))) × TotalsIn t ⌝ }
+    ensures { λ r. ⌜ ((ps : List Production) (base : ℕ) → t ≡ totalsOf ps → passesLimit ps ≡ false →
+        r ≡ judgedOf (callsStart (now (l .entry))) (lineOutcome ps base (now (l .entry))))
+        × AddedPut (now (l .entry)) (t .events) (now (out .entry)) (now (out .exit)) r ⌝ }
+{
+    match write_left(l, out, t.events) {
+        LeftWritten::Broken => LineJudged::Refuse(4),
+        LeftWritten::Refuse(n) => judge_sides(l, t, LeftJudged::Refuse(n)),
+        LeftWritten::Read { left, next } => judge_right(l, t, left, next),
+    }
+}
+
+// What is left to write of a line that adds a production.
 pub fn write_line(l: &[u8], base: usize, out: &mut [u8], t: Totals, line: Line)
     requires { ⌜ ((tableLength ≤ length (now out)) × (base + length (now l) ≤ 8192)) × LineFits (now l) t line ⌝ }
-    ensures { λ r. ⌜ now (out .exit) ≡ putLine base (now (l .entry)) t line (now (out .entry)) ⌝ }
+    ensures { λ r. ⌜ now (out .exit) ≡ putRest base (now (l .entry)) t line (now (out .entry)) ⌝ }
 {
-    write_events(l, out, t.events);
     write_calls(l, line.right, base, out, t.calls, t.parameters);
     put_production(out, t.productions, line.events, line.calls);
 }
@@ -57,15 +80,15 @@ pub fn write_line(l: &[u8], base: usize, out: &mut [u8], t: Totals, line: Line)
 pub fn add_line(l: &[u8], base: usize, out: &mut [u8], s: Progress) -> LineDone
     requires { ⌜ (base + length (now l) ≤ 8192) × Underway (s .totals) (now out) ⌝ }
     ensures { λ r. ⌜ ((u : Underway (s .totals) (now (out .entry))) →
-        (r ≡ plainDone (s .directive) (u .ps) base (now (l .entry)))
-        × (now (out .exit) ≡ plainHeld (u .ps) (u .rest) base (now (l .entry)))) ⌝ }
+        (r ≡ stepDone (plainStep (s .directive) (u .ps) base (now (l .entry))))
+        × StepHeld (plainStep (s .directive) (u .ps) base (now (l .entry))) (u .rest) (now (out .exit))) ⌝ }
 {
     if is_blank_line(l) {
         return LineDone::Done(s);
     }
     let totals = s.totals;
     let directive = s.directive;
-    match judge_line(l, totals) {
+    match judge_line(l, out, totals) {
         LineJudged::Refuse(n) => LineDone::Refused(n),
         LineJudged::Add(line) => {
             write_line(l, base, out, totals, line);
@@ -82,8 +105,8 @@ pub fn add_line(l: &[u8], base: usize, out: &mut [u8], s: Progress) -> LineDone
 pub fn do_line(text: &[u8], at: usize, end: usize, out: &mut [u8], s: Progress) -> LineDone
     requires { ⌜ ((at ≤ length (now text)) × (length (now text) ≤ 8192) × (end ≡ lineEnd (now text) at)) × Underway (s .totals) (now out) ⌝ }
     ensures { λ r. ⌜ ((u : Underway (s .totals) (now (out .entry))) →
-        (r ≡ lineDone (directiveAt (now (text .entry)) at) (s .directive) (u .ps) at (lineAt (now (text .entry)) at))
-        × (now (out .exit) ≡ lineHeld (directiveAt (now (text .entry)) at) (u .ps) (u .rest) at (lineAt (now (text .entry)) at))) ⌝ }
+        (r ≡ stepDone (lineStep (directiveAt (now (text .entry)) at) (s .directive) (u .ps) at (lineAt (now (text .entry)) at)))
+        × StepHeld (lineStep (directiveAt (now (text .entry)) at) (s .directive) (u .ps) at (lineAt (now (text .entry)) at)) (u .rest) (now (out .exit))) ⌝ }
 {
     match directive_at(text, at, end) {
         FirstLine::Found(directive) => {

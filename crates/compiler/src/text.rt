@@ -10,9 +10,8 @@ use tables::TABLE_LENGTH;
 use tables::write::put_counts;
 use tables::write::put_texts;
 ghost use mathlib.Core.Path.{_≡_};
-ghost use mathlib.Core.List.{_++_};
 ghost use Prim.Native.Nat.{_≤_};
-ghost use lib.ListN.{length, drop};
+ghost use lib.ListN.{length};
 ghost use Rattle.words.specs.Words.{cleared};
 ghost use Rattle.model.specs.Compiling.{linesOf, outcomeAnswer};
 ghost use Rattle.model.specs.declared.answers.Compiled.{Compiled};
@@ -41,11 +40,10 @@ pub fn write_header(out: &mut [u8], s: Progress, text: usize)
     put_counts(out, t.productions, t.events, t.calls, t.parameters);
 }
 
-// Line by line. Nothing is written of a line that is refused, and the header is written after the last line.
+// Line by line. The header is written after the last line.
 pub fn compile_lines(text: &[u8], out: &mut [u8]) -> Compiled
-    requires { ⌜ (tableLength ≤ length (now out)) × (length (now text) ≤ 8192) ⌝ }
-    ensures { λ r. ⌜ (r ≡ outcomeAnswer (linesOf (now (text .entry))))
-        × (now (out .exit) ≡ imageOf (linesOf (now (text .entry))) ++ drop tableLength (now (out .entry))) ⌝ }
+    requires { ⌜ (length (now out) ≡ tableLength) × (length (now text) ≤ 8192) ⌝ }
+    ensures { λ r. ⌜ (r ≡ outcomeAnswer (linesOf (now (text .entry)))) × (now (out .exit) ≡ imageOf (linesOf (now (text .entry)))) ⌝ }
 {
     words::clear(out, TABLE_LENGTH);
     let totals = no_totals();

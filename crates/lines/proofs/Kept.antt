@@ -8,14 +8,16 @@ use mathlib.Core.List.{List, [], _∷_, _++_, append-assoc}
 use lib.ListN.{length, length-append}
 use Rattle.model.specs.Numbers.{notGrammar}
 use Rattle.model.specs.Counts.{elementsOf, elementsAt, expanded}
-use Rattle.model.specs.Events.{KeyChar, WrittenEvent, event, EventsRead, events, oneMoreKey, eventsAt, afterEventAt, joinEvents, afterEvents, leftNext, leftFrom}
+use Rattle.model.specs.Events.{KeyChar, WrittenEvent, event, EventsRead, events, oneMoreKey, keyAt, keysNext, keysFrom, eventsAt, afterEventAt, joinEvents, afterEvents, leftNext, leftFrom}
 use Rattle.model.specs.Judging.{keyPressOf, judgedMark, judgedWritten, judged}
 use Rattle.model.specs.Compiling.{EventsJudged, keep, crowded, keepOneMore, crowdedWith, judgedNext, judgedAll}
 use Rattle.model.specs.declared.scan.KeyMark.{KeyMark}
+use Rattle.model.specs.declared.scan.KeyRead.{KeyRead}
 use Rattle.model.specs.declared.scan.AfterEvent.{AfterEvent}
 use Rattle.model.specs.declared.events.KeptEvent.{KeptEvent}
 use Rattle.model.specs.declared.answers.Judged.{Judged}
 use Rattle.event_scanner.specs.declared.events.EventSpans.{EventSpans}
+use Rattle.event_scanner.specs.LeftSide.{stepOf, eventStep}
 use Rattle.counts.specs.Elements.{elementCount}
 use Rattle.counts.proofs.Elements.{element-count}
 use Rattle.judge.specs.Spans.{writtenIn}
@@ -42,85 +44,75 @@ pub side-start : (r : EventsRead) → sideJudged r ≡ sideFrom false 0 0 r
 side-start EventsRead.broken = refl
 side-start (events es next) = kept-start (judgedAll es)
 
-pub side-end : (n m next : ℕ) → sideFrom false n m (events [] next) ≡ LeftJudged.Keep n m
-unfolding judgedAll expanded
-side-end n m next = λ i. LeftJudged.Keep (add-zero n i) (add-zero m i)
-
 -- ---- A key sequence
 
-pub key-read : (k : KeyChar) (r : EventsRead) → IsRead (oneMoreKey k r) → IsRead r
-key-read k EventsRead.broken h = h
-key-read k (events ks next) h = tt
-
-module _ (n m : ℕ) (mark : KeyMark) (byte : ℕ) where
-  pub key-refused : (number : ℕ) (r : EventsRead) → IsRead r → judgedMark mark byte ≡ Judged.Refuse number
-      → sideFrom false n m (oneMoreKey (record { mark = mark; byte = byte }) r) ≡ LeftJudged.Refuse number
-  unfolding judgedAll judged
-  key-refused number EventsRead.broken h e = absurd h
-  key-refused number (events ks next) h e = ap (λ (j : Judged). keptFrom false n m (judgedNext j (judgedAll ks))) e
-
--- a character is one element
-key-single : (mark : KeyMark) (byte : ℕ) (e : KeptEvent) → judgedMark mark byte ≡ Judged.Keep e → length (elementsOf e) ≡ 1
-unfolding elementsOf elementsAt
-key-single KeyMark.Plain byte e q =
-    let i : keyPressOf 0 0 byte ≡ e = cc in ap (λ (k : KeptEvent). length (elementsOf k)) (sym i)
-key-single KeyMark.Control byte e q =
-    let i : keyPressOf 4 0 byte ≡ e = cc in ap (λ (k : KeptEvent). length (elementsOf k)) (sym i)
-key-single KeyMark.Quoted byte e q =
-    let i : keyPressOf 0 0 byte ≡ e = cc in ap (λ (k : KeptEvent). length (elementsOf k)) (sym i)
-key-single KeyMark.Meta byte e q =
-    let i : keyPressOf 0 1 byte ≡ e = cc in ap (λ (k : KeptEvent). length (elementsOf k)) (sym i)
-
--- and names no keysym
-pub key-not-crowded : (mark : KeyMark) (byte : ℕ) → judgedMark mark byte ≡ Judged.Crowded → ⊥
-key-not-crowded KeyMark.Plain byte q = let z : _≡_ {A = ℕ} 0 1 = cc in omega arith
-key-not-crowded KeyMark.Control byte q = let z : _≡_ {A = ℕ} 0 1 = cc in omega arith
-key-not-crowded KeyMark.Quoted byte q = let z : _≡_ {A = ℕ} 0 1 = cc in omega arith
-key-not-crowded KeyMark.Meta byte q = let z : _≡_ {A = ℕ} 0 1 = cc in omega arith
-
-keep-more : (n m : ℕ) (e : KeptEvent) (j : EventsJudged) (a : ℕ) → length (elementsOf e) ≡ a
-    → keptFrom false n m (keepOneMore e j) ≡ keptFrom false (n + 1) (m + a) j
+-- an event that is one element
+keep-one : (e : KeptEvent) (j : EventsJudged) (n : ℕ) → length (elementsOf e) ≡ 1 → keptCounts j ≡ LeftJudged.Keep n n
+    → keptCounts (keepOneMore e j) ≡ LeftJudged.Keep (suc n) (suc n)
 unfolding expanded
-keep-more n m e (keep ks) a q =
-    let s : n + suc (length ks) ≡ n + 1 + length ks = omega arith in
-    let t : m + length (elementsOf e ++ expanded ks) ≡ m + a + length (expanded ks) =
-    omega (arith, length-append (elementsOf e) (expanded ks)) in
+keep-one e (keep ks) n q h =
+    let a : length ks ≡ n = cc in
+    let b : length (expanded ks) ≡ n = cc in
+    let s : suc (length ks) ≡ suc n = omega arith in
+    let t : length (elementsOf e ++ expanded ks) ≡ suc n = omega (arith, length-append (elementsOf e) (expanded ks)) in
     λ i. LeftJudged.Keep (s i) (t i)
-keep-more n m e crowded a q = refl
-keep-more n m e (EventsJudged.refuse k) a q = refl
+keep-one e crowded n q h = let z : _≡_ {A = ℕ} 0 1 = cc in absurd (omega arith)
+keep-one e (EventsJudged.refuse k) n q h = let z : _≡_ {A = ℕ} 0 1 = cc in absurd (omega arith)
 
-module _ (n m : ℕ) (mark : KeyMark) (byte : ℕ) where
-  pub key-kept : (e : KeptEvent) (r : EventsRead) → judgedMark mark byte ≡ Judged.Keep e
-      → sideFrom false n m (oneMoreKey (record { mark = mark; byte = byte }) r) ≡ sideFrom false (n + 1) (m + 1) r
-  unfolding judgedAll judged
-  key-kept e EventsRead.broken q = refl
-  key-kept e (events ks next) q =
-      ap (λ (j : Judged). keptFrom false n m (judgedNext j (judgedAll ks))) q
-      ∙ keep-more n m e (judgedAll ks) 1 (key-single mark byte e q)
+-- a character is one
+mark-kept : (mark : KeyMark) (byte : ℕ) (j : EventsJudged) (n : ℕ) → keptCounts j ≡ LeftJudged.Keep n n
+    → keptCounts (judgedNext (judgedMark mark byte) j) ≡ LeftJudged.Keep (suc n) (suc n)
+unfolding elementsOf elementsAt
+mark-kept KeyMark.Plain byte j n h = keep-one (keyPressOf 0 0 byte) j n refl h
+mark-kept KeyMark.Control byte j n h = keep-one (keyPressOf 4 0 byte) j n refl h
+mark-kept KeyMark.Quoted byte j n h = keep-one (keyPressOf 0 0 byte) j n refl h
+mark-kept KeyMark.Meta byte j n h = keep-one (keyPressOf 0 1 byte) j n refl h
+
+-- all are kept
+abbrev pub KeysKept : EventsRead → Type 0
+KeysKept EventsRead.broken = Unit
+KeysKept (events ks next) = keptCounts (judgedAll ks) ≡ LeftJudged.Keep (length ks) (length ks)
+
+more-kept : (k : KeyChar) (r : EventsRead) → KeysKept r → KeysKept (oneMoreKey k r)
+unfolding judgedAll judged
+more-kept k EventsRead.broken h = tt
+more-kept k (events ks next) h = mark-kept (k .mark) (k .byte) (judgedAll ks) (length ks) h
+
+next-kept : (r : KeyRead) (rest : ℕ → EventsRead) → ((p : ℕ) → KeysKept (rest p)) → KeysKept (keysNext r rest)
+unfolding judgedAll expanded
+next-kept KeyRead.Broken rest h = tt
+next-kept (KeyRead.End next) rest h = refl
+next-kept (KeyRead.Key mark b next) rest h = more-kept (record { mark = mark; byte = b }) (rest next) (h next)
+
+pub keys-kept : (f : ℕ) (l : List ℕ) (at : ℕ) → KeysKept (keysFrom f l at)
+unfolding keysFrom
+keys-kept zero l at = tt
+keys-kept (suc f) l at = next-kept (keyAt l at) (λ p. keysFrom f l p) (λ p. keys-kept f l p)
 
 -- ---- One event that is no key sequence
 
-abbrev writtenAt : List ℕ → EventSpans → List WrittenEvent
-writtenAt l spans = event (writtenIn l spans) ∷ []
+module _ (l : List ℕ) (spans : EventSpans) (next : ℕ) where
+  abbrev plainStep : StepJudged
+  plainStep = stepJudged (events (event (writtenIn l spans) ∷ []) next)
 
-pub plain-refused : (l : List ℕ) (spans : EventSpans) (n : ℕ) → judgedWritten (writtenIn l spans) ≡ Judged.Refuse n
-    → LeftJudged.Refuse n ≡ keptCounts (judgedAll (writtenAt l spans))
-unfolding judgedAll judged
-plain-refused l spans n q = ap (λ (j : Judged). keptCounts (judgedNext j (keep []))) (sym q)
+  abbrev plainOf : Judged → StepJudged
+  plainOf j = goingOn 1 (keptCounts (judgedNext j (keep []))) next
 
-pub plain-crowded : (l : List ℕ) (spans : EventSpans) → judgedWritten (writtenIn l spans) ≡ Judged.Crowded
-    → LeftJudged.Crowded ≡ keptCounts (judgedAll (writtenAt l spans))
-unfolding judgedAll judged
-plain-crowded l spans q = ap (λ (j : Judged). keptCounts (judgedNext j (keep []))) (sym q)
+  pub plain-refused : (n : ℕ) → judgedWritten (writtenIn l spans) ≡ Judged.Refuse n → StepJudged.Refuse n ≡ plainStep
+  unfolding judgedAll judged
+  plain-refused n q = ap plainOf (sym q)
 
-pub plain-kept : (l : List ℕ) (spans : EventSpans) (e : KeptEvent) (a : ℕ) → a ≡ elementCount (e .code) (e .count)
-    → judgedWritten (writtenIn l spans) ≡ Judged.Keep e
-    → LeftJudged.Keep 1 a ≡ keptCounts (judgedAll (writtenAt l spans))
-unfolding judgedAll judged expanded elementsOf
-plain-kept l spans e a h q =
-    let n : a ≡ length (elementsAt (e .count) e ++ []) =
-    omega (arith, element-count (e .count) e, length-append (elementsAt (e .count) e) []) in
-    ap (LeftJudged.Keep 1) n ∙ ap (λ (j : Judged). keptCounts (judgedNext j (keep []))) (sym q)
+  pub plain-crowded : judgedWritten (writtenIn l spans) ≡ Judged.Crowded → StepJudged.Keep 1 0 true next ≡ plainStep
+  unfolding judgedAll judged
+  plain-crowded q = ap plainOf (sym q)
+
+  pub plain-kept : (e : KeptEvent) (a : ℕ) → a ≡ elementCount (e .code) (e .count) → judgedWritten (writtenIn l spans) ≡ Judged.Keep e
+      → StepJudged.Keep 1 a false next ≡ plainStep
+  unfolding judgedAll judged expanded elementsOf
+  plain-kept e a h q =
+      let n : a ≡ length (elementsAt (e .count) e ++ []) =
+      omega (arith, element-count (e .count) e, length-append (elementsAt (e .count) e) []) in
+      ap (λ (m : ℕ). StepJudged.Keep 1 m false next) n ∙ ap plainOf (sym q)
 
 -- ---- The left side
 
@@ -198,6 +190,7 @@ afterTurn o n m (AfterEvent.Comma p) rest = rest o n m p
 afterTurn o n m (AfterEvent.Colon p) rest = finished o n m
 
 abbrev pub leftTurn : List ℕ → Bool → ℕ → ℕ → StepJudged → (Bool → ℕ → ℕ → ℕ → LeftJudged) → LeftJudged
+leftTurn l o n m StepJudged.Broken rest = LeftJudged.Refuse notGrammar
 leftTurn l o n m (StepJudged.Refuse k) rest = LeftJudged.Refuse k
 leftTurn l o n m (StepJudged.Keep a b one next) rest = afterTurn (one || o) (n + a) (m + b) (afterEventAt l next) rest
 
@@ -205,37 +198,38 @@ module _ (l : List ℕ) (o : Bool) (n m : ℕ) (rest : ℕ → EventsRead) where
   abbrev others : Bool → ℕ → ℕ → ℕ → LeftJudged
   others c a b p = sideFrom c a b (rest p)
 
-  joined-turn : (next p : ℕ) (fs : List WrittenEvent) (end : ℕ) → afterEventAt l next ≡ AfterEvent.Comma p → rest p ≡ events fs end
-      → (j : EventsJudged) → keptFrom o n m (joined j (judgedAll fs)) ≡ leftTurn l o n m (goingOn (keptCounts j) next) others
-  joined-turn next p fs end q t (EventsJudged.refuse k) = refl
-  joined-turn next p fs end q t (keep ks) =
+  joined-turn : (count next p : ℕ) (fs : List WrittenEvent) (end : ℕ) → afterEventAt l next ≡ AfterEvent.Comma p
+      → rest p ≡ events fs end
+      → (j : EventsJudged) → keptFrom o n m (joined j (judgedAll fs)) ≡ leftTurn l o n m (goingOn count (keptCounts j) next) others
+  joined-turn count next p fs end q t (EventsJudged.refuse k) = refl
+  joined-turn count next p fs end q t (keep ks) =
       before-from o n m ks (judgedAll fs)
       ∙ ap (sideFrom o (n + length ks) (m + length (expanded ks))) (sym t)
       ∙ ap (λ (a : AfterEvent). afterTurn o (n + length ks) (m + length (expanded ks)) a others) (sym q)
-  joined-turn next p fs end q t crowded =
-      crowded-from o n m (n + 0) (m + 0) (judgedAll fs)
-      ∙ ap (sideFrom true (n + 0) (m + 0)) (sym t)
-      ∙ ap (λ (a : AfterEvent). afterTurn true (n + 0) (m + 0) a others) (sym q)
+  joined-turn count next p fs end q t crowded =
+      crowded-from o n m (n + count) (m + 0) (judgedAll fs)
+      ∙ ap (sideFrom true (n + count) (m + 0)) (sym t)
+      ∙ ap (λ (a : AfterEvent). afterTurn true (n + count) (m + 0) a others) (sym q)
 
-  colon-turn : (next p : ℕ) → afterEventAt l next ≡ AfterEvent.Colon p
-      → (j : EventsJudged) → keptFrom o n m j ≡ leftTurn l o n m (goingOn (keptCounts j) next) others
-  colon-turn next p q (EventsJudged.refuse k) = refl
-  colon-turn next p q (keep ks) =
+  colon-turn : (count next p : ℕ) → afterEventAt l next ≡ AfterEvent.Colon p
+      → (j : EventsJudged) → keptFrom o n m j ≡ leftTurn l o n m (goingOn count (keptCounts j) next) others
+  colon-turn count next p q (EventsJudged.refuse k) = refl
+  colon-turn count next p q (keep ks) =
       ap (λ (a : AfterEvent). afterTurn o (n + length ks) (m + length (expanded ks)) a others) (sym q)
-  colon-turn next p q crowded = ap (λ (a : AfterEvent). afterTurn true (n + 0) (m + 0) a others) (sym q)
+  colon-turn count next p q crowded = ap (λ (a : AfterEvent). afterTurn true (n + count) (m + 0) a others) (sym q)
 
   comma-turn : (es : List WrittenEvent) (next p : ℕ) → afterEventAt l next ≡ AfterEvent.Comma p → (r : EventsRead) → rest p ≡ r
       → IsRead (joinEvents es r)
-      → sideFrom o n m (joinEvents es r) ≡ leftTurn l o n m (goingOn (keptCounts (judgedAll es)) next) others
+      → sideFrom o n m (joinEvents es r) ≡ leftTurn l o n m (goingOn (length es) (keptCounts (judgedAll es)) next) others
   comma-turn es next p q EventsRead.broken t h = absurd h
   comma-turn es next p q (events fs end) t h =
-      ap (keptFrom o n m) (judged-append es fs) ∙ joined-turn next p fs end q t (judgedAll es)
+      ap (keptFrom o n m) (judged-append es fs) ∙ joined-turn (length es) next p fs end q t (judgedAll es)
 
   after-turn : (es : List WrittenEvent) (next : ℕ) (a : AfterEvent) → afterEventAt l next ≡ a → IsRead (afterEvents es a rest)
-      → sideFrom o n m (afterEvents es a rest) ≡ leftTurn l o n m (goingOn (keptCounts (judgedAll es)) next) others
+      → sideFrom o n m (afterEvents es a rest) ≡ leftTurn l o n m (goingOn (length es) (keptCounts (judgedAll es)) next) others
   after-turn es next AfterEvent.Broken q h = absurd h
   after-turn es next (AfterEvent.Comma p) q h = comma-turn es next p q (rest p) refl h
-  after-turn es next (AfterEvent.Colon p) q h = colon-turn next p q (judgedAll es)
+  after-turn es next (AfterEvent.Colon p) q h = colon-turn (length es) next p q (judgedAll es)
 
   next-turn : (r : EventsRead) → IsRead (leftNext l r rest)
       → sideFrom o n m (leftNext l r rest) ≡ leftTurn l o n m (stepJudged r) others
@@ -250,26 +244,33 @@ left-turn o n m (suc f) l at r h i e =
     next-turn l o n m (λ p. leftFrom f l p) (eventsAt l at) i
     ∙ ap (λ (s : StepJudged). leftTurn l o n m s (λ c a b p. sideFrom c a b (leftFrom f l p))) e
 
--- the rest after a comma is in the grammar
+-- ---- What stands after a step
 
-joined-read : (es : List WrittenEvent) (r : EventsRead) → IsRead (joinEvents es r) → IsRead r
-joined-read es EventsRead.broken h = h
-joined-read es (events fs next) h = tt
+next-step : (j : EventsJudged) (count next a b : ℕ) (one : Bool) (p : ℕ) → goingOn count (keptCounts j) next ≡ StepJudged.Keep a b one p
+    → next ≡ p
+next-step (keep ks) count next a b one p e = cc
+next-step crowded count next a b one p e = cc
+next-step (EventsJudged.refuse n) count next a b one p e = let z : _≡_ {A = ℕ} 0 1 = cc in absurd (omega arith)
 
-step-next : (j : EventsJudged) (next a b : ℕ) (one : Bool) (p : ℕ) → goingOn (keptCounts j) next ≡ StepJudged.Keep a b one p → next ≡ p
-step-next (keep ks) next a b one p e = cc
-step-next crowded next a b one p e = cc
-step-next (EventsJudged.refuse n) next a b one p e = let z : _≡_ {A = ℕ} 0 1 = cc in absurd (omega arith)
+not-broken : (j : EventsJudged) (count next : ℕ) → goingOn count (keptCounts j) next ≡ StepJudged.Broken → ⊥
+not-broken (keep ks) count next e = let z : _≡_ {A = ℕ} 0 1 = cc in omega arith
+not-broken crowded count next e = let z : _≡_ {A = ℕ} 0 1 = cc in omega arith
+not-broken (EventsJudged.refuse n) count next e = let z : _≡_ {A = ℕ} 0 1 = cc in omega arith
 
-rest-read : (l : List ℕ) (rest : ℕ → EventsRead) (r : EventsRead) (a b : ℕ) (one : Bool) (next p : ℕ) → IsRead (leftNext l r rest)
-    → stepJudged r ≡ StepJudged.Keep a b one next → afterEventAt l next ≡ AfterEvent.Comma p → IsRead (rest p)
-rest-read l rest EventsRead.broken a b one next p h e q = absurd h
-rest-read l rest (events es end) a b one next p h e q =
-    let s : afterEventAt l end ≡ AfterEvent.Comma p = ap (afterEventAt l) (step-next (judgedAll es) end a b one next e) ∙ q in
-    joined-read es (rest p) (subst (λ (c : AfterEvent). IsRead (afterEvents es c rest)) s h)
+module _ (l : List ℕ) (at : ℕ) where
+  pub step-after : (a b : ℕ) (one : Bool) (next : ℕ) → stepJudged (eventsAt l at) ≡ StepJudged.Keep a b one next
+      → eventStep l at ≡ afterEventAt l next
+  unfolding eventStep
+  step-after a b one next e = go (eventsAt l at) e
+    where
+      go : (r : EventsRead) → stepJudged r ≡ StepJudged.Keep a b one next → stepOf l r ≡ afterEventAt l next
+      go EventsRead.broken h = let z : _≡_ {A = ℕ} 0 1 = cc in absurd (omega arith)
+      go (events es end) h = ap (afterEventAt l) (next-step (judgedAll es) (length es) end a b one next h)
 
-pub left-read : (f : ℕ) (l : List ℕ) (at a b : ℕ) (one : Bool) (next p : ℕ) → 0 < f → IsRead (leftFrom f l at)
-    → stepJudged (eventsAt l at) ≡ StepJudged.Keep a b one next → afterEventAt l next ≡ AfterEvent.Comma p → IsRead (leftFrom (pred f) l p)
-unfolding leftFrom
-left-read zero l at a b one next p h i e q = absurd (omega arith)
-left-read (suc f) l at a b one next p h i e q = rest-read l (λ p. leftFrom f l p) (eventsAt l at) a b one next p i e q
+  pub step-broken : stepJudged (eventsAt l at) ≡ StepJudged.Broken → eventStep l at ≡ AfterEvent.Broken
+  unfolding eventStep
+  step-broken e = go (eventsAt l at) e
+    where
+      go : (r : EventsRead) → stepJudged r ≡ StepJudged.Broken → stepOf l r ≡ AfterEvent.Broken
+      go EventsRead.broken h = refl
+      go (events es end) h = absurd (not-broken (judgedAll es) (length es) end h)

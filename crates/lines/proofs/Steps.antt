@@ -129,10 +129,11 @@ expanded-most (e ∷ es) h =
 -- ---- One step
 
 abbrev pub StepIn : ℕ → ℕ → StepJudged → Type 0
+StepIn n at StepJudged.Broken = Unit
 StepIn n at (StepJudged.Refuse k) = Unit
 StepIn n at (StepJudged.Keep a b one next) = (at + a ≤ next) × (b ≤ 18 * a) × (next ≤ n)
 
-step-of-in : (n at m next : ℕ) (j : EventsJudged) → at + m ≤ next → next ≤ n → JudgedIn m j → StepIn n at (goingOn (keptCounts j) next)
+step-of-in : (n at m next : ℕ) (j : EventsJudged) → at + m ≤ next → next ≤ n → JudgedIn m j → StepIn n at (goingOn m (keptCounts j) next)
 step-of-in n at m next (keep ks) a b h = (omega (arith, h .0), expanded-most ks (h .1), b)
 step-of-in n at m next crowded a b h = (omega arith, omega arith, b)
 step-of-in n at m next (EventsJudged.refuse k) a b h = tt

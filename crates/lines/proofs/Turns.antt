@@ -1,58 +1,88 @@
--- The left side, judged from a position on: the loop of `judge_left`.
+-- The left side, judged from a position on: one turn of the walk over it.
 use Prim.Native.Nat.{ℕ, pred, _+_, _*_, _≤_, _<_}
 use native.Mathlib.Omega.{arith}
-use mathlib.Core.Path.{_≡_, sym, subst, _∙_}
+use mathlib.Core.Path.{_≡_, refl, sym, ap, subst, _∙_}
 use mathlib.Core.Bool.{Bool, false, _||_}
 use mathlib.Core.List.{List}
 use lib.ListN.{length}
-use Rattle.model.specs.Numbers.{notGrammar}
 use Rattle.model.specs.Bytes.{byteAt}
-use Rattle.model.specs.Events.{eventsAt, afterEventAt, leftFrom, leftSide}
+use Rattle.model.specs.Events.{EventsRead, events, eventsAt, afterEventAt, leftFrom, leftSide}
 use Rattle.model.specs.declared.scan.AfterEvent.{AfterEvent}
+use Rattle.event_scanner.specs.declared.left.LeftRead.{LeftRead}
+use Rattle.event_scanner.specs.LeftSide.{eventStep, leftOf}
 use Rattle.scanner.proofs.Ranges.{AfterIn, after-in}
+use Rattle.event_scanner.proofs.LeftSide.{leftStep, left-step}
 use Rattle.lines.specs.declared.left.LeftJudged.{LeftJudged}
 use Rattle.lines.specs.declared.left.StepJudged.{StepJudged}
 use Rattle.lines.specs.Left.{IsRead, finished, sideJudged, stepJudged}
-use Rattle.lines.proofs.Kept.{sideFrom, side-start, afterTurn, left-turn, left-read}
+use Rattle.lines.proofs.Kept.{sideFrom, side-start, afterTurn, left-turn, step-after, step-broken}
 use Rattle.lines.proofs.Steps.{StepIn, step-in}
 
--- at a position, after n events that are m elements, or after one that is crowded
+-- at a position, after n events that are m elements, or after one that is crowded; what follows need not be in the grammar
 pub record LeftAt (l : List ℕ) (at : ℕ) (o : Bool) (n m : ℕ) : Type 0 where
   pub fuel : ℕ
   pub enough : length l < fuel + at
   pub inside : at ≤ length l
   pub events : n ≤ at
   pub elements : m ≤ 18 * at
-  pub read : IsRead (leftFrom fuel l at)
-  pub whole : sideJudged (leftSide l) ≡ sideFrom o n m (leftFrom fuel l at)
+  pub side : leftOf (leftSide l) ≡ leftOf (leftFrom fuel l at)
+  pub whole : IsRead (leftSide l) → sideJudged (leftSide l) ≡ sideFrom o n m (leftFrom fuel l at)
 
-pub left-start : (l : List ℕ) → IsRead (leftSide l) → LeftAt l 0 false 0 0
+pub left-start : (l : List ℕ) → LeftAt l 0 false 0 0
 unfolding leftSide
-left-start l h =
+left-start l =
     record {
       fuel = length l + 1;
       enough = omega arith;
       inside = omega arith;
       events = omega arith;
       elements = omega arith;
-      read = h;
-      whole = side-start (leftFrom (length l + 1) l 0);
+      side = refl;
+      whole = λ h. side-start (leftFrom (length l + 1) l 0);
     }
 
+-- whether a side is in the grammar shows at its end
+same-read : (r s : EventsRead) → leftOf r ≡ leftOf s → IsRead r → IsRead s
+same-read EventsRead.broken s e h = absurd h
+same-read (events es next) EventsRead.broken e h = let z : _≡_ {A = ℕ} 0 1 = cc in absurd (omega arith)
+same-read (events es next) (events fs end) e h = tt
+
+pub left-is-read : (r : EventsRead) (next : ℕ) → leftOf r ≡ LeftRead.Left next → IsRead r
+left-is-read EventsRead.broken next e = let z : _≡_ {A = ℕ} 0 1 = cc in absurd (omega arith)
+left-is-read (events es end) next e = tt
+
 module _ (l : List ℕ) (at : ℕ) (o : Bool) (n m : ℕ) (h : LeftAt l at o n m) where
-  pub left-refused : (k : ℕ) → stepJudged (eventsAt l at) ≡ StepJudged.Refuse k → LeftJudged.Refuse k ≡ sideJudged (leftSide l)
-  left-refused k e = sym (h .whole ∙ left-turn o n m (h .fuel) l at (StepJudged.Refuse k) (omega arith) (h .read) e)
+  still-read : IsRead (leftSide l) → IsRead (leftFrom (h .fuel) l at)
+  still-read r = same-read (leftSide l) (leftFrom (h .fuel) l at) (h .side) r
+
+  side-step : (a : AfterEvent) → eventStep l at ≡ a → leftOf (leftSide l) ≡ leftStep a (λ p. leftOf (leftFrom (pred (h .fuel)) l p))
+  side-step a e = h .side ∙ left-step (h .fuel) l at a (omega (arith, h .enough, h .inside)) e
+
+  pub left-refused : (k : ℕ) → stepJudged (eventsAt l at) ≡ StepJudged.Refuse k → IsRead (leftSide l)
+      → sideJudged (leftSide l) ≡ LeftJudged.Refuse k
+  left-refused k e r =
+      h .whole r ∙ left-turn o n m (h .fuel) l at (StepJudged.Refuse k) (omega (arith, h .enough, h .inside)) (still-read r) e
+
+  pub left-broken : stepJudged (eventsAt l at) ≡ StepJudged.Broken → leftOf (leftSide l) ≡ LeftRead.Broken
+  left-broken e = side-step AfterEvent.Broken (step-broken l at e)
 
   module _ (a b : ℕ) (one : Bool) (next : ℕ) (e : stepJudged (eventsAt l at) ≡ StepJudged.Keep a b one next) where
-    turned : sideJudged (leftSide l)
+    turned : IsRead (leftSide l) → sideJudged (leftSide l)
         ≡ afterTurn (one || o) (n + a) (m + b) (afterEventAt l next) (λ c i j p. sideFrom c i j (leftFrom (pred (h .fuel)) l p))
-    turned = h .whole ∙ left-turn o n m (h .fuel) l at (StepJudged.Keep a b one next) (omega arith) (h .read) e
+    turned r =
+        h .whole r ∙ left-turn o n m (h .fuel) l at (StepJudged.Keep a b one next) (omega (arith, h .enough, h .inside)) (still-read r) e
 
-    pub left-broken : afterEventAt l next ≡ AfterEvent.Broken → LeftJudged.Refuse notGrammar ≡ sideJudged (leftSide l)
-    left-broken q = sym (rw q at turned)
+    side-after : (x : AfterEvent) → afterEventAt l next ≡ x → leftOf (leftSide l) ≡ leftStep x (λ p. leftOf (leftFrom (pred (h .fuel)) l p))
+    side-after x q = side-step x (step-after l at a b one next e ∙ q)
 
-    pub left-colon : (p : ℕ) → afterEventAt l next ≡ AfterEvent.Colon p → finished (one || o) (n + a) (m + b) ≡ sideJudged (leftSide l)
-    left-colon p q = sym (rw q at turned)
+    pub after-broken : afterEventAt l next ≡ AfterEvent.Broken → leftOf (leftSide l) ≡ LeftRead.Broken
+    after-broken q = side-after AfterEvent.Broken q
+
+    pub left-colon : (p : ℕ) → afterEventAt l next ≡ AfterEvent.Colon p
+        → (leftOf (leftSide l) ≡ LeftRead.Left p) × (sideJudged (leftSide l) ≡ finished (one || o) (n + a) (m + b))
+    left-colon p q =
+        let s = side-after (AfterEvent.Colon p) q in
+        (s, rw q at (turned (left-is-read (leftSide l) p s)))
 
     module _ (bytes : (k : ℕ) → byteAt l k < 256) where
       pub step-bounds : (at + a ≤ next) × (b ≤ 18 * a) × (next ≤ length l)
@@ -72,6 +102,6 @@ module _ (l : List ℕ) (at : ℕ) (o : Bool) (n m : ℕ) (h : LeftAt l at o n m
               inside = t .1;
               events = omega (arith, h .events, s .0, t .0);
               elements = omega (arith, h .elements, s .0, s .1, t .0);
-              read = left-read (h .fuel) l at a b one next p (omega arith) (h .read) e q;
-              whole = rw q at turned;
+              side = side-after (AfterEvent.Comma p) q;
+              whole = λ r. rw q at (turned r);
             }

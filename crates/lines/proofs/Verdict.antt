@@ -18,7 +18,6 @@ use Rattle.model.specs.declared.events.KeptEvent.{KeptEvent}
 use Rattle.event_scanner.specs.LeftSide.{leftOf}
 use Rattle.call_scanner.specs.RightSide.{rightOf, parameterNumber, mostOf}
 use Rattle.event_scanner.specs.declared.left.LeftRead.{LeftRead}
-use Rattle.call_scanner.specs.declared.right.RightRead.{RightRead}
 use Rattle.call_scanner.proofs.RightSide.{most-passes}
 use Rattle.lines.specs.declared.totals.Totals.{Totals}
 use Rattle.lines.specs.declared.totals.Line.{Line}
@@ -26,24 +25,8 @@ use Rattle.lines.specs.declared.left.LeftJudged.{LeftJudged}
 use Rattle.lines.specs.declared.line.LineJudged.{LineJudged}
 use Rattle.lines.specs.Totals.{parametersIn, totalsOf, heldLine, withLine}
 use Rattle.lines.specs.Left.{IsRead, keptCounts, sideJudged}
-use Rattle.lines.specs.Line.{callsFound, callsStart, judgedOf, linePasses, allPass, limited}
+use Rattle.lines.specs.Line.{callsFound, callsStart, judgedOf, linePasses, allPass, limited, leftVerdict, rightVerdict, sidesVerdict}
 use Rattle.lines.proofs.Sums.{passes-more}
-
--- ---- What the code comes to
-
-abbrev pub leftVerdict : Totals → ℕ → (count parameters most : ℕ) → LeftJudged → LineJudged
-leftVerdict t right count parameters most (LeftJudged.Refuse n) = LineJudged.Refuse n
-leftVerdict t right count parameters most LeftJudged.Crowded = LineJudged.Refuse pastLimit
-leftVerdict t right count parameters most (LeftJudged.Keep kept elements) =
-    limited t (record { events = kept; elements = elements; calls = count; parameters = parameters; right = right }) most
-
-abbrev pub rightVerdict : Totals → ℕ → LeftJudged → RightRead → LineJudged
-rightVerdict t right j RightRead.Broken = LineJudged.Refuse notGrammar
-rightVerdict t right j (RightRead.Right count parameters most) = leftVerdict t right count parameters most j
-
-abbrev pub sidesVerdict : Totals → List ℕ → LeftJudged → LeftRead → LineJudged
-sidesVerdict t l j LeftRead.Broken = LineJudged.Refuse notGrammar
-sidesVerdict t l j (LeftRead.Left next) = rightVerdict t next j (rightOf (rightSide l next))
 
 -- ---- A production by its counts
 
@@ -156,10 +139,6 @@ module _ (ps : List Production) (kept : passesLimit ps ≡ false) (base : ℕ) w
 
 -- ---- The ways through the code
 
-pub left-is-read : (r : EventsRead) (next : ℕ) → leftOf r ≡ LeftRead.Left next → IsRead r
-left-is-read EventsRead.broken next e = let z : _≡_ {A = ℕ} 0 1 = cc in absurd (omega arith)
-left-is-read (events es end) next e = tt
-
 -- an answer that is the verdict on the totals is the model's for all productions that have them
 abbrev pub Answers : List ℕ → Totals → LineJudged → Type 0
 Answers l t r =
@@ -173,25 +152,20 @@ module _ (l : List ℕ) (t : Totals) where
   pub no-left : leftOf (leftSide l) ≡ LeftRead.Broken → Answers l t (LineJudged.Refuse notGrammar)
   no-left e = answered (LineJudged.Refuse notGrammar) (ap (sidesVerdict t l (sideJudged (leftSide l))) (sym e))
 
-  module _ (next : ℕ) (e : leftOf (leftSide l) ≡ LeftRead.Left next) where
-    with-left : (r : LineJudged) → r ≡ rightVerdict t next (sideJudged (leftSide l)) (rightOf (rightSide l next)) → Answers l t r
-    with-left r q = answered r (q ∙ ap (sidesVerdict t l (sideJudged (leftSide l))) (sym e))
+  -- the left side is read to its end
+  pub with-left : (next : ℕ) (j : LeftJudged) (r : LineJudged) → leftOf (leftSide l) ≡ LeftRead.Left next → sideJudged (leftSide l) ≡ j
+      → r ≡ rightVerdict t next j (rightOf (rightSide l next)) → Answers l t r
+  with-left next j r e s q =
+      answered r
+      (q
+      ∙ ap (λ (k : LeftJudged). rightVerdict t next k (rightOf (rightSide l next))) (sym s)
+      ∙ ap (sidesVerdict t l (sideJudged (leftSide l))) (sym e))
 
-    pub no-right : rightOf (rightSide l next) ≡ RightRead.Broken → Answers l t (LineJudged.Refuse notGrammar)
-    no-right q = with-left (LineJudged.Refuse notGrammar) (ap (rightVerdict t next (sideJudged (leftSide l))) (sym q))
-
-    module _ (count parameters most : ℕ) (q : rightOf (rightSide l next) ≡ RightRead.Right count parameters most) where
-      with-right : (r : LineJudged) → r ≡ leftVerdict t next count parameters most (sideJudged (leftSide l)) → Answers l t r
-      with-right r s = with-left r (s ∙ ap (rightVerdict t next (sideJudged (leftSide l))) (sym q))
-
-      pub event-refused : (n : ℕ) → sideJudged (leftSide l) ≡ LeftJudged.Refuse n → Answers l t (LineJudged.Refuse n)
-      event-refused n s = with-right (LineJudged.Refuse n) (ap (leftVerdict t next count parameters most) (sym s))
-
-      pub event-crowded : sideJudged (leftSide l) ≡ LeftJudged.Crowded → Answers l t (LineJudged.Refuse pastLimit)
-      event-crowded s = with-right (LineJudged.Refuse pastLimit) (ap (leftVerdict t next count parameters most) (sym s))
-
-      pub all-kept : (kept elements : ℕ) (r : LineJudged) → sideJudged (leftSide l) ≡ LeftJudged.Keep kept elements
-          → r
-          ≡ limited t (record { events = kept; elements = elements; calls = count; parameters = parameters; right = next }) most
-          → Answers l t r
-      all-kept kept elements r s u = with-right r (u ∙ ap (leftVerdict t next count parameters most) (sym s))
+  -- it is read to an event that is refused, where it is in the grammar at all
+  pub without-left : (j : LeftJudged) (r : LineJudged) → (IsRead (leftSide l) → sideJudged (leftSide l) ≡ j)
+      → r ≡ sidesVerdict t l j (leftOf (leftSide l)) → Answers l t r
+  without-left j r s q = answered r (q ∙ go (leftSide l) s)
+    where
+      go : (x : EventsRead) → (IsRead x → sideJudged x ≡ j) → sidesVerdict t l j (leftOf x) ≡ sidesVerdict t l (sideJudged x) (leftOf x)
+      go EventsRead.broken h = refl
+      go (events es next) h = ap (λ (k : LeftJudged). rightVerdict t next k (rightOf (rightSide l next))) (sym (h tt))

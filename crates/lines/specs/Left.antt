@@ -28,12 +28,12 @@ abbrev pub sideJudged : EventsRead → LeftJudged
 sideJudged EventsRead.broken = LeftJudged.Refuse notGrammar
 sideJudged (events es next) = keptCounts (judgedAll es)
 
--- the same, with where reading goes on
-abbrev pub goingOn : LeftJudged → ℕ → StepJudged
-goingOn (LeftJudged.Refuse n) next = StepJudged.Refuse n
-goingOn LeftJudged.Crowded next = StepJudged.Keep 0 0 true next
-goingOn (LeftJudged.Keep count elements) next = StepJudged.Keep count elements false next
+-- the same, with how many events there are in all, and where reading goes on
+abbrev pub goingOn : ℕ → LeftJudged → ℕ → StepJudged
+goingOn count (LeftJudged.Refuse n) next = StepJudged.Refuse n
+goingOn count LeftJudged.Crowded next = StepJudged.Keep count 0 true next
+goingOn count (LeftJudged.Keep kept elements) next = StepJudged.Keep kept elements false next
 
 abbrev pub stepJudged : EventsRead → StepJudged
-stepJudged EventsRead.broken = StepJudged.Refuse notGrammar
-stepJudged (events es next) = goingOn (keptCounts (judgedAll es)) next
+stepJudged EventsRead.broken = StepJudged.Broken
+stepJudged (events es next) = goingOn (length es) (keptCounts (judgedAll es)) next

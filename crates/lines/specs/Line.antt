@@ -4,11 +4,16 @@ use mathlib.Core.Bool.{Bool, cond, _||_}
 use mathlib.Core.List.{List}
 use lib.Dec.{ltb}
 use Rattle.model.specs.Limits.{productionLimit, sequenceLimit, eventLimit, callsOfProductionLimit, callLimit, parametersOfCallLimit, parameterLimit}
-use Rattle.model.specs.Numbers.{pastLimit}
+use Rattle.model.specs.Numbers.{notGrammar, pastLimit}
 use Rattle.model.specs.Events.{EventsRead, events, leftSide}
+use Rattle.model.specs.Calls.{rightSide}
 use Rattle.model.specs.Compiling.{LineOutcome, add}
+use Rattle.event_scanner.specs.declared.left.LeftRead.{LeftRead}
+use Rattle.call_scanner.specs.declared.right.RightRead.{RightRead}
+use Rattle.call_scanner.specs.RightSide.{rightOf}
 use Rattle.lines.specs.declared.totals.Totals.{Totals}
 use Rattle.lines.specs.declared.totals.Line.{Line}
+use Rattle.lines.specs.declared.left.LeftJudged.{LeftJudged}
 use Rattle.lines.specs.declared.line.LineJudged.{LineJudged}
 use Rattle.lines.specs.Totals.{heldLine, withLine}
 
@@ -42,3 +47,22 @@ allPass t =
 unfoldable pub limited : Totals → Line → ℕ → LineJudged
 limited t line most =
     cond (linePasses line most || allPass (withLine t line)) (LineJudged.Refuse pastLimit) (LineJudged.Add line)
+
+-- ---- "4 for the whole line; then event by event ..; then 11 with that line counted"
+
+-- of a line in the grammar, by what its left side came to and by its calls
+abbrev pub leftVerdict : Totals → ℕ → (count parameters most : ℕ) → LeftJudged → LineJudged
+leftVerdict t right count parameters most (LeftJudged.Refuse n) = LineJudged.Refuse n
+leftVerdict t right count parameters most LeftJudged.Crowded = LineJudged.Refuse pastLimit
+leftVerdict t right count parameters most (LeftJudged.Keep kept elements) =
+    limited t (record { events = kept; elements = elements; calls = count; parameters = parameters; right = right }) most
+
+-- of a line whose left side is in the grammar
+abbrev pub rightVerdict : Totals → ℕ → LeftJudged → RightRead → LineJudged
+rightVerdict t right j RightRead.Broken = LineJudged.Refuse notGrammar
+rightVerdict t right j (RightRead.Right count parameters most) = leftVerdict t right count parameters most j
+
+-- of any line
+abbrev pub sidesVerdict : Totals → List ℕ → LeftJudged → LeftRead → LineJudged
+sidesVerdict t l j LeftRead.Broken = LineJudged.Refuse notGrammar
+sidesVerdict t l j (LeftRead.Left next) = rightVerdict t next j (rightOf (rightSide l next))

@@ -1,6 +1,5 @@
-// One line that is not blank, judged whole.
+// A line that is not blank, judged by what its events came to: the grammar first, the limits last.
 use crate::left::LeftJudged;
-use crate::left::judge_left;
 use crate::totals::Line;
 use crate::totals::Totals;
 use crate::totals::exceeds;
@@ -9,15 +8,14 @@ use call_scanner::right::right_side;
 use event_scanner::left::LeftRead;
 use event_scanner::left::left_side;
 ghost use mathlib.Core.Path.{_≡_};
-ghost use mathlib.Core.Bool.{false};
-ghost use mathlib.Core.List.{List};
-ghost use Prim.Native.Nat.{ℕ, _≤_};
+ghost use Prim.Native.Nat.{_≤_};
 ghost use lib.ListN.{length};
-ghost use Rattle.model.specs.Limits.{textLimit};
-ghost use Rattle.model.specs.Tables.{Production};
-ghost use Rattle.model.specs.Compiling.{lineOutcome, passesLimit};
-ghost use Rattle.lines.specs.Totals.{totalsOf, withLine, TotalsIn};
-ghost use Rattle.lines.specs.Line.{callsStart, judgedOf, linePasses, allPass, limited};
+ghost use Rattle.model.specs.Events.{leftSide};
+ghost use Rattle.model.specs.Calls.{rightSide};
+ghost use Rattle.event_scanner.specs.LeftSide.{leftOf};
+ghost use Rattle.call_scanner.specs.RightSide.{rightOf};
+ghost use Rattle.lines.specs.Totals.{withLine, TotalsIn};
+ghost use Rattle.lines.specs.Line.{linePasses, allPass, limited, rightVerdict, sidesVerdict};
 
 pub enum LineJudged {
     Refuse(u8),
@@ -57,35 +55,42 @@ pub fn limit(t: Totals, line: Line, most: usize) -> LineJudged
     LineJudged::Add(line)
 }
 
-// A line that is not blank: 4 for the whole line, then its events in order, then 11 with that line counted. `t` are the
-// totals of the lines before it.
-pub fn judge_line(l: &[u8], t: Totals) -> LineJudged
-    requires { ⌜ (length (now l) ≤ textLimit) × TotalsIn t ⌝ }
-    ensures { λ r. ⌜ ((ps : List Production) (base : ℕ) → t ≡ totalsOf ps → passesLimit ps ≡ false →
-        r ≡ judgedOf (callsStart (now (l .entry))) (lineOutcome ps base (now (l .entry)))) ⌝ }
+// The answer to a line by its right side, which begins at `next`, and by what its left side came to: 4, then the refusal of an
+// event, then 11 with that line counted. `t` are the totals of the lines before it.
+pub fn judge_right(l: &[u8], t: Totals, left: LeftJudged, next: usize) -> LineJudged
+    requires { ⌜ (next ≤ length (now l)) × TotalsIn t ⌝ }
+    ensures { λ r. ⌜ r ≡ rightVerdict t next left (rightOf (rightSide (now (l .entry)) next)) ⌝ }
+{
+    match right_side(l, next) {
+        RightRead::Broken => LineJudged::Refuse(4),
+        RightRead::Right {
+            calls,
+            parameters,
+            most,
+        } => match left {
+            LeftJudged::Refuse(n) => LineJudged::Refuse(n),
+            LeftJudged::Crowded => LineJudged::Refuse(11),
+            LeftJudged::Keep { events, elements } => {
+                let line = Line {
+                    events,
+                    elements,
+                    calls,
+                    parameters,
+                    right: next,
+                };
+                limit(t, line, most)
+            }
+        },
+    }
+}
+
+// The same of a line whose left side has not been read to its end.
+pub fn judge_sides(l: &[u8], t: Totals, left: LeftJudged) -> LineJudged
+    requires { ⌜ TotalsIn t ⌝ }
+    ensures { λ r. ⌜ r ≡ sidesVerdict t (now (l .entry)) left (leftOf (leftSide (now (l .entry)))) ⌝ }
 {
     match left_side(l) {
         LeftRead::Broken => LineJudged::Refuse(4),
-        LeftRead::Left { next } => match right_side(l, next) {
-            RightRead::Broken => LineJudged::Refuse(4),
-            RightRead::Right {
-                calls,
-                parameters,
-                most,
-            } => match judge_left(l) {
-                LeftJudged::Refuse(n) => LineJudged::Refuse(n),
-                LeftJudged::Crowded => LineJudged::Refuse(11),
-                LeftJudged::Keep { events, elements } => {
-                    let line = Line {
-                        events,
-                        elements,
-                        calls,
-                        parameters,
-                        right: next,
-                    };
-                    limit(t, line, most)
-                }
-            },
-        },
+        LeftRead::Left { next } => judge_right(l, t, left, next),
     }
 }

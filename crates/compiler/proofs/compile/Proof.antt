@@ -1,10 +1,11 @@
 use borrow.Author.Needs.{needs}
 use mathlib.Core.Path.{_≡_, sym, ap, _∙_}
-use mathlib.Core.List.{_++_}
+use Prim.Native.Nat.{ℕ}
+use mathlib.Core.List.{List, _++_}
 use mathlib.Core.Option.{none, some}
 use lib.ListN.{drop}
 use Rattle.model.specs.Bytes.{firstBadByte}
-use Rattle.model.specs.Compiling.{Outcome, outcomeAnswer}
+use Rattle.model.specs.Compiling.{outcomeAnswer}
 use Rattle.scanner.specs.BadByte.{badByteOf}
 use Rattle.tables.specs.Layout.{tableLength}
 use Rattle.compiler.specs.Compile.{imageOf}
@@ -47,6 +48,15 @@ refuse-requires-2 c κs = search needs
 enum-told : tie.Need-enum-told
 enum-told c = search needs
 
+sub-compile-lines : tie.Need-sub-compile-lines
+sub-compile-lines c = search needs
+
+part-compile-lines-start : tie.Need-part-compile-lines-start
+part-compile-lines-start c = search needs
+
+part-compile-lines-end : tie.Need-part-compile-lines-end
+part-compile-lines-end c = search needs
+
 compile-lines-requires : tie.Need-compile-lines-requires
 compile-lines-requires c κs = search needs
 
@@ -78,7 +88,7 @@ returns-4 c =
     let x = c .before .before .compile-lines .ensures in
     answered text out _ _
     (x .0 ∙ ap outcomeAnswer (sym (long-outcome text out h ∙ e)))
-    (x .1 ∙ ap (λ (o : Outcome). imageOf o ++ drop tableLength out) (sym e) ∙ sym (long-bytes text out h))
+    (ap (λ (o : List ℕ). o ++ drop tableLength out) (x .1 ∙ ap imageOf (sym e)) ∙ sym (long-bytes text out h))
 
 pub compile-spec : {M : Type 1} → statement M
 compile-spec =
@@ -92,6 +102,9 @@ compile-spec =
     enum-known-place
     refuse-requires-2
     enum-told
+    sub-compile-lines
+    part-compile-lines-start
+    part-compile-lines-end
     compile-lines-requires
     same-length-2
     returns-3

@@ -1,7 +1,13 @@
 use borrow.Author.Needs.{needs}
 use native.Mathlib.Omega.{arith}
-use mathlib.Core.Path.{sym, _∙_}
-use Rattle.compiler.proofs.EventHere.{read-told}
+use Prim.Native.Nat.{ℕ}
+use mathlib.Core.Path.{ap, _∙_}
+use mathlib.Core.List.{List}
+use Rattle.model.specs.Events.{WrittenEvent, EventsRead}
+use Rattle.event_scanner.specs.Spans.{eventsIn}
+use Rattle.lines.specs.Left.{stepJudged}
+use Rattle.compiler.specs.Puts.{putFitting}
+use Rattle.compiler.proofs.EventHere.{put-nothing, read-told}
 use Rattle.compiler.proofs.events.write_event.Statement.{statement}
 use Rattle.compiler.proofs.events.write_event.Tie as tie
 
@@ -16,44 +22,34 @@ enum-known-spans c = search needs
 
 write-plain-requires : tie.Need-write-plain-requires
 write-plain-requires c κs =
-    let s = c .before .before .before .before .before .before .before .before in
-    let h = read-told (s .args .l .now) (s .args .at) (s .args .k) (s .args .out .now) (s .pre .0) (s .pre .2) (c .before .before .before .before .before .read-event .ensures) (c .before .before .before .spans .given .1) in
-    (h .spans, (s .pre .1, h .room))
-
-add-t15 : tie.Need-add-t15
-add-t15 c =
-    let s = c .before .before .before .before .before .before .before .before .before .before .before in
-    let h = read-told (s .args .l .now) (s .args .at) (s .args .k) (s .args .out .now) (s .pre .0) (s .pre .2) (c .before .before .before .before .before .before .before .before .read-event .ensures) (c .before .before .before .before .before .before .spans .given .1) in
-    omega (arith, h .room)
+    let s = c .before .before .before .before .before .before .before in
+    let h = read-told (s .args .l .now) (s .args .at) (s .pre .0) (c .before .before .before .before .read-event .ensures) (c .before .before .spans .given .1) in
+    (h .spans, s .pre .2)
 
 enum-known-start : tie.Need-enum-known-start
 enum-known-start c = search needs
 
-write-keys-requires : tie.Need-write-keys-requires
-write-keys-requires c κs =
+write-sequence-requires : tie.Need-write-sequence-requires
+write-sequence-requires c κs =
     let s = c .before .before .before .before .before .before .before in
-    let h = read-told (s .args .l .now) (s .args .at) (s .args .k) (s .args .out .now) (s .pre .0) (s .pre .2) (c .before .before .before .before .read-event .ensures) (c .before .before .start .given .1) in
-    (h .inside, s .pre .1, h .fits)
-
-add-t19 : tie.Need-add-t19
-add-t19 c =
-    let s = c .before .before .before .before .before .before .before .before .before .before in
-    let h = read-told (s .args .l .now) (s .args .at) (s .args .k) (s .args .out .now) (s .pre .0) (s .pre .2) (c .before .before .before .before .before .before .before .read-event .ensures) (c .before .before .before .before .before .start .given .1) in
-    omega (arith, h .room)
+    let h = read-told (s .args .l .now) (s .args .at) (s .pre .0) (c .before .before .before .before .read-event .ensures) (c .before .before .start .given .1) in
+    ((h .inside, s .pre .2), (h .read, h .counted, omega (arith, h .few, s .pre .1, s .pre .3)))
 
 returns : tie.Need-returns
 returns c =
     let s = c .before .before .before .before .before in
-    absurd (read-told (s .args .l .now) (s .args .at) (s .args .k) (s .args .out .now) (s .pre .0) (s .pre .2) (c .before .before .read-event .ensures) (c .enum-told .given .1))
+    let e = read-told (s .args .l .now) (s .args .at) (s .pre .0) (c .before .before .read-event .ensures) (c .enum-told .given .1) in
+    (ap stepJudged e, put-nothing (s .args .out .now) (s .args .k) ∙ ap (λ (r : EventsRead). putFitting (s .args .out .now) (s .args .k) (eventsIn r)) e)
 
 same-length : tie.Need-same-length
 same-length c = search needs
 
 returns-2 : tie.Need-returns-2
 returns-2 c =
-    let s = c .before .before .before .before .before .before .before .before .before .before .before in
-    let h = read-told (s .args .l .now) (s .args .at) (s .args .k) (s .args .out .now) (s .pre .0) (s .pre .2) (c .before .before .before .before .before .before .before .before .read-event .ensures) (c .before .before .before .before .before .before .spans .given .1) in
-    (sym (h .walk), c .before .before .write-plain .ensures ∙ sym (h .bytes))
+    let s = c .before .before .before .before .before .before .before .before .before .before in
+    let h = read-told (s .args .l .now) (s .args .at) (s .pre .0) (c .before .before .before .before .before .before .before .read-event .ensures) (c .before .before .before .before .before .spans .given .1) in
+    let w = c .before .before .write-plain .ensures in
+    (w .0 ∙ ap stepJudged (h .is), w .1 ∙ ap (λ (r : EventsRead). putFitting (s .args .out .now) (s .args .k) (eventsIn r)) (h .is))
 
 same-length-2 : tie.Need-same-length-2
 same-length-2 c = search needs
@@ -61,8 +57,8 @@ same-length-2 c = search needs
 returns-3 : tie.Need-returns-3
 returns-3 c =
     let s = c .before .before .before .before .before .before .before .before .before .before in
-    let h = read-told (s .args .l .now) (s .args .at) (s .args .k) (s .args .out .now) (s .pre .0) (s .pre .2) (c .before .before .before .before .before .before .before .read-event .ensures) (c .before .before .before .before .before .start .given .1) in
-    (sym (h .walk), c .before .before .write-keys .ensures ∙ sym (h .bytes))
+    let h = read-told (s .args .l .now) (s .args .at) (s .pre .0) (c .before .before .before .before .before .before .before .read-event .ensures) (c .before .before .before .before .before .start .given .1) in
+    (h .step, c .before .before .write-sequence .ensures ∙ ap (putFitting (s .args .out .now) (s .args .k)) (h .are))
 
 pub write-event-spec : {M : Type 1} → statement M
 write-event-spec =
@@ -72,10 +68,8 @@ write-event-spec =
     enum-told
     enum-known-spans
     write-plain-requires
-    add-t15
     enum-known-start
-    write-keys-requires
-    add-t19
+    write-sequence-requires
     returns
     same-length
     returns-2

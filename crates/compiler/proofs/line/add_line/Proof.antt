@@ -1,11 +1,21 @@
 use borrow.Author.Needs.{needs}
 use native.Mathlib.Omega.{arith}
-use mathlib.Core.Path.{sym, ap, _∙_}
+use mathlib.Core.Path.{refl, sym, ap, _∙_, subst}
 use Rattle.lines.specs.declared.totals.Totals.{Totals}
 use Rattle.compiler.specs.declared.line.LineDone.{LineDone}
-use Rattle.compiler.proofs.LineSteps.{plain-blank, plain-refused, plain-added, underway-length, underway-in, outcome-refused, outcome-added, added-fits, added-totals, added-in, added-held}
+use Rattle.compiler.specs.Progress.{Underway}
+use Rattle.compiler.specs.Reads.{AddedPut}
+use Rattle.compiler.proofs.LineSteps.{plain-blank, plain-refused, plain-added, stepped, underway-length, underway-in, outcome-refused, Adds, outcome-added, added-fits, added-totals, added-in, added-held}
 use Rattle.compiler.proofs.line.add_line.Statement.{statement}
 use Rattle.compiler.proofs.line.add_line.Tie as tie
+
+-- the line adds a production
+adds : (c : tie.After-known-told2) (u : Underway (c .before .before .before .before .before .before .before .before .before .before .before .before .args .s .totals) (c .before .before .before .before .before .before .before .before .before .before .before .before .args .out .now))
+    → Adds (c .before .before .before .before .before .before .before .before .before .before .before .before .args .s .totals) (c .before .before .before .before .before .before .before .before .before .before .before .before .args .out .now) u (c .before .before .before .before .before .before .before .before .before .before .before .before .args .base) (c .before .before .before .before .before .before .before .before .before .before .before .before .args .l .now) (c .before .line .given .0 .0)
+adds c u =
+    let a = c .before .before .before .before .before .before .before .before .before .before .before .before .args in
+    outcome-added (a .s .totals) (a .out .now) u (a .base) (a .l .now) (c .before .line .given .0 .0)
+    (sym (c .before .line .given .1) ∙ c .before .before .before .before .before .judge-line .ensures .0 (u .ps) (a .base) (u .totals) (u .kept))
 
 is-blank-line-requires : tie.Need-is-blank-line-requires
 is-blank-line-requires c κs = search needs
@@ -13,13 +23,15 @@ is-blank-line-requires c κs = search needs
 returns : tie.Need-returns
 returns c u =
     let a = c .before .before .before .before .args in
-    let b = plain-blank (a .s .directive) (u .ps) (u .rest) (a .base) (a .l .now) (sym (c .before .is-blank-line .ensures) ∙ c .if1 .taken) in
-    (ap (λ (t : Totals). LineDone.Done (record { directive = a .s .directive; totals = t })) (u .totals) ∙ b .0, u .bytes ∙ b .1)
+    stepped (u .rest) _ _ (plain-blank (a .s .directive) (u .ps) (a .base) (a .l .now) (sym (c .before .is-blank-line .ensures) ∙ c .if1 .taken))
+    (ap (λ (t : Totals). LineDone.Done (record { directive = a .s .directive; totals = t })) (u .totals), u .bytes)
 
 judge-line-requires : tie.Need-judge-line-requires
 judge-line-requires c κs =
-    let s = c .before .before .before .before .before in
-    (omega (arith, s .pre .0), underway-in (s .args .s .totals) (s .args .out .now) (s .pre .1))
+    let s = c .before .before .before .before .before .before in
+    let t = s .args .s .totals in
+    let u = s .pre .1 in
+    ((omega (arith, s .pre .0), omega (arith, underway-length t (s .args .out .now) u)), underway-in t (s .args .out .now) u)
 
 enum-known-n : tie.Need-enum-known-n
 enum-known-n c = search needs
@@ -29,52 +41,41 @@ enum-known-line c = search needs
 
 write-line-requires : tie.Need-write-line-requires
 write-line-requires c κs =
-    let s = c .before .before .before .before .before .before .before .before .before .before in
-    let t = s .args .s .totals in
-    let out = s .args .out .now in
-    let u = s .pre .1 in
-    let base = s .args .base in
-    let l = s .args .l .now in
-    let e = sym (c .before .before .line .given .1) ∙ c .before .before .before .before .judge-line .ensures (u .ps) base (u .totals) (u .kept) in
-    ((omega (arith, underway-length t out u), s .pre .0), added-fits t out u base l (c .before .before .line .given .0 .0) (outcome-added t out u base l (c .before .before .line .given .0 .0) e))
-
-with-line-requires : tie.Need-with-line-requires
-with-line-requires c κs =
     let s = c .before .before .before .before .before .before .before .before .before .before .before .before .before in
     let t = s .args .s .totals in
     let out = s .args .out .now in
     let u = s .pre .1 in
-    let base = s .args .base in
-    let l = s .args .l .now in
-    let e = sym (c .before .before .before .before .before .line .given .1) ∙ c .before .before .before .before .before .before .before .judge-line .ensures (u .ps) base (u .totals) (u .kept) in
-    added-in t out u base l (c .before .before .before .before .before .line .given .0 .0) (outcome-added t out u base l (c .before .before .before .before .before .line .given .0 .0) e)
+    ((omega (arith, underway-length t out u, c .before .before .before .before .before .before .judge-line .kept .1 .0), s .pre .0), added-fits t out u (s .args .base) (s .args .l .now) (c .before .before .line .given .0 .0) (adds (c .before) u))
 
-returns-2 : tie.Need-returns-2
-returns-2 c u =
-    let a = c .before .before .before .before .before .before .before .before .before .args in
-    let base = a .base in
-    let l = a .l .now in
-    let e = sym (c .before .n .given .1) ∙ c .before .before .before .judge-line .ensures (u .ps) base (u .totals) (u .kept) in
-    let q = outcome-refused (a .s .totals) (a .out .now) u (c .before .n .given .0 .0) _ base l e in
-    let b = plain-refused (a .s .directive) (u .ps) (u .rest) base l (c .before .n .given .0 .0) (sym (c .before .before .before .before .before .before .is-blank-line .ensures) ∙ c .before .before .before .before .before .if1 .left) q in
-    (b .0, u .bytes ∙ b .1)
+with-line-requires : tie.Need-with-line-requires
+with-line-requires c κs =
+    let s = c .before .before .before .before .before .before .before .before .before .before .before .before .before .before .before .before in
+    added-in (s .args .s .totals) (s .args .out .now) (s .pre .1) (s .args .base) (s .args .l .now) (c .before .before .before .before .before .line .given .0 .0) (adds (c .before .before .before .before) (s .pre .1))
 
 same-length : tie.Need-same-length
 same-length c = search needs
 
+returns-2 : tie.Need-returns-2
+returns-2 c u =
+    let a = c .before .before .before .before .before .before .before .before .before .before .before .before .args in
+    let n = c .before .n .given .0 .0 in
+    let e = sym (c .before .n .given .1) ∙ c .before .before .before .before .before .judge-line .ensures .0 (u .ps) (a .base) (u .totals) (u .kept) in
+    let q = outcome-refused (a .s .totals) (a .out .now) u n _ (a .base) (a .l .now) e in
+    stepped (u .rest) _ _ (plain-refused (a .s .directive) (u .ps) (a .base) (a .l .now) n (sym (c .before .before .before .before .before .before .before .before .before .is-blank-line .ensures) ∙ c .before .before .before .before .before .before .before .before .if1 .left) q) (refl, tt)
+
+same-length-2 : tie.Need-same-length-2
+same-length-2 c = search needs
+
 returns-3 : tie.Need-returns-3
 returns-3 c u =
-    let a = c .before .before .before .before .before .before .before .before .before .before .before .before .before .before .args in
+    let a = c .before .before .before .before .before .before .before .before .before .before .before .before .before .before .before .before .before .args in
     let t = a .s .totals in
-    let base = a .base in
     let l = a .l .now in
     let line = c .before .before .before .before .before .before .line .given .0 .0 in
-    let e = sym (c .before .before .before .before .before .before .line .given .1) ∙ c .before .before .before .before .before .before .before .before .judge-line .ensures (u .ps) base (u .totals) (u .kept) in
-    let x = outcome-added t (a .out .now) u base l line e in
-    let b = plain-added (a .s .directive) (u .ps) (u .rest) base l (x .p) (sym (c .before .before .before .before .before .before .before .before .before .before .before .is-blank-line .ensures) ∙ c .before .before .before .before .before .before .before .before .before .before .if1 .left) (x .outcome) in (
-      ap (λ (n : Totals). LineDone.Done (record { directive = a .s .directive; totals = n })) (c .with-line .ensures ∙ added-totals t (a .out .now) u base l line x) ∙ b .0,
-      added-held t (a .out .now) u base l line x (c .before .before .before .write-line .last .1 .1 .0) (c .before .before .before .write-line .ensures) ∙ b .1,
-    )
+    let x = adds (c .before .before .before .before .before) u in
+    let w = subst (AddedPut l (t .events) (a .out .now) (c .before .before .before .before .before .before .before .before .before .before .judge-line .last .1 .0)) (c .before .before .before .before .before .before .line .given .1) (c .before .before .before .before .before .before .before .before .before .before .judge-line .ensures .1) in
+    stepped (u .rest) _ _ (plain-added (a .s .directive) (u .ps) (a .base) l (x .p) (sym (c .before .before .before .before .before .before .before .before .before .before .before .before .before .before .is-blank-line .ensures) ∙ c .before .before .before .before .before .before .before .before .before .before .before .before .before .if1 .left) (x .outcome))
+    (ap (λ (n : Totals). LineDone.Done (record { directive = a .s .directive; totals = n })) (c .with-line .ensures ∙ added-totals t (a .out .now) u (a .base) l line x), added-held t (a .out .now) u (a .base) l line x (c .before .before .before .before .before .before .before .before .before .before .judge-line .last .1 .0) (c .before .before .before .write-line .last .1 .1 .0) w (c .before .before .before .write-line .ensures))
 
 pub add-line-spec : {M : Type 1} → statement M
 add-line-spec =
@@ -87,6 +88,7 @@ add-line-spec =
     enum-known-line
     write-line-requires
     with-line-requires
-    returns-2
     same-length
+    returns-2
+    same-length-2
     returns-3)

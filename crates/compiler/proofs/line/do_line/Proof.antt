@@ -9,9 +9,9 @@ use Rattle.model.specs.Lines.{lineAt, directiveAt}
 use Rattle.model.specs.declared.events.Directive.{Directive}
 use Rattle.lookup.specs.Find.{directiveGiven}
 use Rattle.lines.specs.declared.totals.Totals.{Totals}
-use Rattle.compiler.specs.Progress.{plainDone, plainHeld, lineDone, lineHeld}
+use Rattle.compiler.specs.Progress.{plainStep, lineStep}
 use Rattle.compiler.specs.declared.line.LineDone.{LineDone}
-use Rattle.compiler.proofs.LineSteps.{line-part, line-from, line-in}
+use Rattle.compiler.proofs.LineSteps.{line-part, line-from, line-in, stepped}
 use Rattle.compiler.proofs.line.do_line.Statement.{statement}
 use Rattle.compiler.proofs.line.do_line.Tie as tie
 
@@ -54,11 +54,9 @@ returns : tie.Need-returns
 returns c u =
     let a = c .before .before .before .before .before .before .before .args in
     let d = c .before .before .directive .given .0 .0 in
-    let e : directiveAt (a .text .now) (a .at) ≡ some d = sym (c .before .before .before .before .directive-at .ensures) ∙ ap directiveGiven (c .before .before .directive .given .1) in (
-      ap (λ (t : Totals). LineDone.Done (record { directive = d; totals = t })) (u .totals)
-          ∙ ap (λ (o : Option Directive). lineDone o (a .s .directive) (u .ps) (a .at) (lineAt (a .text .now) (a .at))) (sym e),
-      u .bytes ∙ ap (λ (o : Option Directive). lineHeld o (u .ps) (u .rest) (a .at) (lineAt (a .text .now) (a .at))) (sym e),
-    )
+    let e : directiveAt (a .text .now) (a .at) ≡ some d = sym (c .before .before .before .before .directive-at .ensures) ∙ ap directiveGiven (c .before .before .directive .given .1) in
+    stepped (u .rest) _ _ (ap (λ (o : Option Directive). lineStep o (a .s .directive) (u .ps) (a .at) (lineAt (a .text .now) (a .at))) e)
+    (ap (λ (t : Totals). LineDone.Done (record { directive = d; totals = t })) (u .totals), u .bytes)
 
 same-length : tie.Need-same-length
 same-length c = search needs
@@ -68,12 +66,9 @@ returns-2 c u =
     let a = c .before .before .before .before .before .before .before .before .before .before .args in
     let e : directiveAt (a .text .now) (a .at) ≡ none = sym (c .before .before .before .before .before .before .before .directive-at .ensures) ∙ ap directiveGiven (c .before .before .before .before .before .enum-told .given .1) in
     let w = line-part (a .text .now) (a .at) (a .end) (c .before .before .before .before .before .before .before .before .before .before .pre .0 .2) in
-    let x = c .before .before .add-line .ensures u in (
-      x .0 ∙ ap (plainDone (a .s .directive) (u .ps) (a .at)) w
-          ∙ ap (λ (o : Option Directive). lineDone o (a .s .directive) (u .ps) (a .at) (lineAt (a .text .now) (a .at))) (sym e),
-      x .1 ∙ ap (plainHeld (u .ps) (u .rest) (a .at)) w
-          ∙ ap (λ (o : Option Directive). lineHeld o (u .ps) (u .rest) (a .at) (lineAt (a .text .now) (a .at))) (sym e),
-    )
+    stepped (u .rest) _ _
+    (ap (λ (o : Option Directive). lineStep o (a .s .directive) (u .ps) (a .at) (lineAt (a .text .now) (a .at))) e ∙ ap (plainStep (a .s .directive) (u .ps) (a .at)) (sym w))
+    (c .before .before .add-line .ensures u)
 
 pub do-line-spec : {M : Type 1} → statement M
 do-line-spec =

@@ -4,14 +4,15 @@ use Prim.Native.Nat.{_+_, _-_}
 use mathlib.Core.Path.{_≡_, refl, sym, ap, _∙_}
 use lib.ListN.{length}
 use Rattle.model.specs.Compiling.{outcomeAnswer}
+use Rattle.tables.specs.Layout.{tableLength}
 use Rattle.compiler.specs.declared.line.LineDone.{LineDone}
 use Rattle.compiler.proofs.LineSteps.{line-from}
-use Rattle.compiler.proofs.Run.{Going, going-start, underway, AfterLine, after-line, next-kept, next-totals, next-going, next-last, refused-bytes, accepted-bytes}
+use Rattle.compiler.proofs.Run.{Going, going-start, underway, AfterLine, after-line, next-totals, next-going, next-last, refused-bytes, accepted-bytes}
 use Rattle.compiler.proofs.text.compile_lines.Statement.{statement}
 use Rattle.compiler.proofs.text.compile_lines.Tie as tie
 
 abbrev Inv-loop : tie.InvT-loop
-Inv-loop text out₀ s₀ at₀ out s at = Going text out₀ out s at × (length out ≡ length out₀)
+Inv-loop text out₀ s₀ at₀ out s at = Going text out s at × (length out ≡ length out₀)
 
 abbrev μ-loop : tie.MeasureT-loop
 μ-loop text out₀ s₀ at₀ out s at = length text + 1 - at
@@ -24,34 +25,34 @@ no-totals-requires c κs = search needs
 
 loop-holds : tie.Need-loop-holds Inv-loop μ-loop
 loop-holds c =
-    let a = c .before .before .before .before .before .before .before .args in
-    (going-start (a .text .now) (a .out .now) (c .before .before .before .clear .last .0) (c .no-totals .result) (c .before .before .before .clear .ensures) (c .no-totals .ensures), refl)
+    let s = c .before .before .before .before .before .before .before in
+    (going-start (s .args .text .now) (s .args .out .now) (c .before .before .before .clear .last .0) (c .no-totals .result) (s .pre .0) (c .before .before .before .clear .ensures) (c .no-totals .ensures), refl)
 
 line-end-requires : tie.Need-line-end-requires Inv-loop μ-loop
 line-end-requires c κs = search needs
 
 do-line-requires : tie.Need-do-line-requires Inv-loop μ-loop
 do-line-requires c κs =
-    let x = c .before .before .loop in
-    let g = x .inv .0 in
-    ((g .inside, c .before .before .before .before .before .before .before .before .before .before .pre .1, c .before .line-end .ensures), underway _ _ _ _ _ g)
+    let g = c .before .before .loop .inv .0 in
+    ((g .inside, c .before .before .before .before .before .before .before .before .before .before .pre .1, c .before .line-end .ensures), underway _ _ _ _ g)
 
--- what a line came to
+-- what a line came to, in a buffer that is as long as before
 came : (c : tie.After-do-line Inv-loop μ-loop) (r : LineDone) → c .do-line .result ≡ r
-    → AfterLine (c .before .before .before .before .before .before .before .before .before .before .before .args .text .now) (c .before .before .before .before .before .before .before .clear .last .0) (c .do-line .last .1 .1 .1 .0) (c .before .before .before .loop .at) r
+    → AfterLine (c .before .before .before .before .before .before .before .before .before .before .before .args .text .now) (c .do-line .last .1 .1 .1 .0) (c .before .before .before .loop .at) r
 came c r q =
     let x = c .before .before .before .loop in
-    let g = x .inv .0 in
-    let e = c .do-line .ensures (underway (c .before .before .before .before .before .before .before .before .before .before .before .args .text .now) (c .before .before .before .before .before .before .before .clear .last .0) (x .out) (x .s) (x .at) g) in
-    after-line (c .before .before .before .before .before .before .before .before .before .before .before .args .text .now) (c .before .before .before .before .before .before .before .clear .last .0) (x .out) (x .s) (x .at) g (c .do-line .last .1 .1 .1 .0) (c .do-line .result) r (e .0) (e .1) q
+    let text = c .before .before .before .before .before .before .before .before .before .before .before .args .text .now in
+    let e = c .do-line .ensures (underway text (x .out) (x .s) (x .at) (x .inv .0)) in
+    after-line text (x .out) (x .s) (x .at) (x .inv .0) (c .do-line .last .1 .1 .1 .0) (c .do-line .result) r (e .0) (e .1) q
+
+long : (c : tie.After-do-line Inv-loop μ-loop) → length (c .do-line .last .1 .1 .1 .0) ≡ tableLength
+long c = c .do-line .kept .1 .1 .1 .0 ∙ c .before .before .before .loop .inv .1 ∙ c .before .before .before .before .before .before .before .clear .kept .0 ∙ c .before .before .before .before .before .before .before .before .before .before .before .pre .0
 
 enum-known-number : tie.Need-enum-known-number Inv-loop μ-loop
 enum-known-number c = search needs
 
 refuse-requires : tie.Need-refuse-requires Inv-loop μ-loop
-refuse-requires c κs =
-    let k = came (c .before .before .before .before .before .before) (LineDone.Refused (c .before .before .number .given .0 .0)) (c .before .before .number .given .1) in
-    omega (arith, k .1 .long)
+refuse-requires c κs = omega (arith, long (c .before .before .before .before .before .before))
 
 same-length : tie.Need-same-length Inv-loop μ-loop
 same-length c =
@@ -59,11 +60,11 @@ same-length c =
 
 returns : tie.Need-returns Inv-loop μ-loop
 returns c =
-    let a = c .before .before .before .before .before .before .before .before .before .before .before .before .before .before .before .before .before .before .before .before .args in
+    let text = c .before .before .before .before .before .before .before .before .before .before .before .before .before .before .before .before .before .before .before .before .args .text .now in
     let n = c .before .before .before .before .before .number .given .0 .0 in
     let k = came (c .before .before .before .before .before .before .before .before .before) (LineDone.Refused n) (c .before .before .before .before .before .number .given .1) in (
-      c .before .before .refuse .ensures .0 ∙ ap outcomeAnswer (sym (k .0)),
-      refused-bytes (a .text .now) (a .out .now) (c .before .before .before .before .before .before .before .before .before .before .before .before .before .before .before .before .clear .last .0) (c .before .before .before .before .before .before .before .before .before .before .before .before .before .before .before .before .clear .ensures) (c .before .before .before .before .before .before .before .before .before .do-line .last .1 .1 .1 .0) (c .before .before .refuse .last .0) n (c .before .before .before .before .before .before .before .before .before .before .before .before .loop .at) (k .0) (k .1) (c .before .before .refuse .ensures .1),
+      c .before .before .refuse .ensures .0 ∙ ap outcomeAnswer (sym k),
+      refused-bytes text (c .before .before .before .before .before .before .before .before .before .do-line .last .1 .1 .1 .0) (c .before .before .refuse .last .0) n (c .before .before .before .before .before .before .before .before .before .before .before .before .loop .at) (long (c .before .before .before .before .before .before .before .before .before)) k (c .before .before .refuse .ensures .1),
     )
 
 enum-known-next : tie.Need-enum-known-next Inv-loop μ-loop
@@ -72,8 +73,7 @@ enum-known-next c = search needs
 write-header-requires : tie.Need-write-header-requires Inv-loop μ-loop
 write-header-requires c κs =
     let x = came (c .before .before .before .before .before .before .before) (LineDone.Done (c .before .before .before .next .given .0 .0)) (c .before .before .before .next .given .1) in
-    let k = next-kept _ _ _ _ _ x in
-    ((omega (arith, k .long), c .before .before .before .before .before .before .before .before .before .before .before .before .before .before .before .before .before .before .pre .1), next-totals _ _ _ _ _ x)
+    ((omega (arith, long (c .before .before .before .before .before .before .before)), c .before .before .before .before .before .before .before .before .before .before .before .before .before .before .before .before .before .before .pre .1), next-totals _ _ _ _ x)
 
 same-length-2 : tie.Need-same-length-2 Inv-loop μ-loop
 same-length-2 c =
@@ -81,13 +81,11 @@ same-length-2 c =
 
 returns-2 : tie.Need-returns-2 Inv-loop μ-loop
 returns-2 c =
-    let a = c .before .before .before .before .before .before .before .before .before .before .before .before .before .before .before .before .before .before .before .before .before .args in
+    let text = c .before .before .before .before .before .before .before .before .before .before .before .before .before .before .before .before .before .before .before .before .before .args .text .now in
     let s = c .before .before .before .before .before .before .next .given .0 .0 in
     let x = came (c .before .before .before .before .before .before .before .before .before .before) (LineDone.Done s) (c .before .before .before .before .before .before .next .given .1) in
-    let e = next-last _ _ _ _ _ x (c .before .before .before .before .before .before .before .before .before .before .before .before .line-end .result) (c .before .before .before .before .before .before .before .before .before .before .before .before .line-end .ensures) (c .before .before .before .before .if1 .taken) in (
-      ap outcomeAnswer (sym e),
-      accepted-bytes (a .text .now) (a .out .now) (c .before .before .before .before .before .before .before .before .before .before .before .before .before .before .before .before .before .clear .last .0) (c .before .before .before .before .before .before .before .before .before .before .before .before .before .before .before .before .before .clear .ensures) (c .before .before .before .before .before .before .before .before .before .before .do-line .last .1 .1 .1 .0) (c .before .before .write-header .last .0) s (c .before .before .before .before .before .before .before .before .before .before .before .before .before .loop .at) x e (c .before .before .write-header .ensures),
-    )
+    let e = next-last _ _ _ _ x (c .before .before .before .before .before .before .before .before .before .before .before .before .line-end .result) (c .before .before .before .before .before .before .before .before .before .before .before .before .line-end .ensures) (c .before .before .before .before .if1 .taken) in
+    (ap outcomeAnswer (sym e), accepted-bytes text (c .before .before .before .before .before .before .before .before .before .before .do-line .last .1 .1 .1 .0) (c .before .before .write-header .last .0) s (c .before .before .before .before .before .before .before .before .before .before .before .before .before .loop .at) x e (c .before .before .write-header .ensures))
 
 add-at : tie.Need-add-at Inv-loop μ-loop
 add-at c = search needs
@@ -101,7 +99,7 @@ loop-less c =
 loop-again : tie.Need-loop-again Inv-loop μ-loop
 loop-again c =
     let x = came (c .before .before .before .before .before .before) (LineDone.Done (c .before .before .next .given .0 .0)) (c .before .before .next .given .1) in (
-      next-going _ _ _ _ _ x (c .before .before .before .before .before .before .before .before .line-end .result) (c .before .before .before .before .before .before .before .before .line-end .ensures) (c .if1 .left),
+      next-going _ _ _ _ x (c .before .before .before .before .before .before .before .before .line-end .result) (c .before .before .before .before .before .before .before .before .line-end .ensures) (c .if1 .left),
       c .before .before .before .before .before .before .do-line .kept .1 .1 .1 .0 ∙ c .before .before .before .before .before .before .before .before .before .loop .inv .1,
     )
 
