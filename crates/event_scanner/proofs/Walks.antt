@@ -14,10 +14,8 @@ use Rattle.event_scanner.specs.declared.keys.KeysRead.{KeysRead}
 use Rattle.event_scanner.specs.declared.events.Part.{Part}
 use Rattle.event_scanner.specs.declared.events.ListSpans.{ListSpans}
 use Rattle.event_scanner.specs.declared.events.EventRead.{EventRead}
-use Rattle.event_scanner.specs.declared.left.LeftRead.{LeftRead}
 use Rattle.list_scanner.specs.ModifierLists.{summed, listFrom, modifiersIn}
 use Rattle.event_scanner.specs.Spans.{countSpans, typeSpans, withListRead, listSpans, plainSpans, keyed, keysSpans, keySpans, spansFrom, spansAt, eventsIn}
-use Rattle.event_scanner.specs.LeftSide.{leftOf}
 use Rattle.scanner.proofs.Ranges.{cond-in}
 
 -- ---- Events
@@ -86,11 +84,3 @@ pub events-step : (f : ℕ) (l : List ℕ) (at : ℕ) (r : EventsRead) → 0 < f
 unfolding leftFrom
 events-step zero l at r h e = absurd (omega arith)
 events-step (suc f) l at r h e = rw e
-
-pub left-good : (r : EventsRead) (next : ℕ) → leftOf r ≡ LeftRead.Left next → r ≡ events (eventsIn r) next
-left-good EventsRead.broken next e = let z : _≡_ {A = ℕ} 0 1 = cc in absurd (omega arith)
-left-good (events es p) next e = cc
-
-pub left-broken : (r : EventsRead) → leftOf r ≡ LeftRead.Broken → r ≡ EventsRead.broken
-left-broken EventsRead.broken e = refl
-left-broken (events es p) e = let z : _≡_ {A = ℕ} 0 1 = cc in absurd (omega arith)

@@ -1,7 +1,6 @@
 // Key sequences: one character, and the whole.
 use model::scan::KeyMark;
 use model::scan::KeyRead;
-use scanner::bytes::byte_at;
 ghost use mathlib.Core.Path.{_≡_};
 ghost use Prim.Native.Nat.{_+_, _≤_};
 ghost use lib.ListN.{length};

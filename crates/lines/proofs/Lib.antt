@@ -3,6 +3,3 @@ pub mod Verdict
 pub mod Kept
 pub mod Steps
 pub mod Turns
-pub mod Calls
-pub mod Added
-pub mod Sources

@@ -30,7 +30,6 @@ use Rattle.judge.proofs.EventRanges.{judged-in}
 use Rattle.judge.proofs.LineRanges.{AllWritten, ReadIn, events-written}
 use Rattle.lines.specs.declared.left.StepJudged.{StepJudged}
 use Rattle.lines.specs.Left.{keptCounts, goingOn, stepJudged}
-use Rattle.lines.specs.Ranges.{AllKept}
 
 -- ---- A key sequence that was read is in the grammar, and has a character
 
@@ -91,6 +90,10 @@ counts-in l at h =
     subst (CountsIn (length l) at) (spans-read l at) (read-counts l at (spansAt l at) (spans-in l at h) (spans-whole l at))
 
 -- ---- What judging keeps
+
+abbrev pub AllKept : List KeptEvent → Type 0
+AllKept [] = Unit
+AllKept (e ∷ es) = judge.EventIn e × AllKept es
 
 abbrev pub JudgedIn : ℕ → EventsJudged → Type 0
 JudgedIn n (keep ks) = (length ks ≡ n) × AllKept ks

@@ -1,4 +1,3 @@
 pub mod Totals
 pub mod Left
 pub mod Line
-pub mod Ranges

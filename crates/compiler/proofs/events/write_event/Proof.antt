@@ -1,9 +1,7 @@
 use borrow.Author.Needs.{needs}
 use native.Mathlib.Omega.{arith}
-use Prim.Native.Nat.{ℕ}
 use mathlib.Core.Path.{ap, _∙_}
-use mathlib.Core.List.{List}
-use Rattle.model.specs.Events.{WrittenEvent, EventsRead}
+use Rattle.model.specs.Events.{EventsRead}
 use Rattle.event_scanner.specs.Spans.{eventsIn}
 use Rattle.lines.specs.Left.{stepJudged}
 use Rattle.compiler.specs.Puts.{putFitting}

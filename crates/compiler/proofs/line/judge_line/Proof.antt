@@ -1,5 +1,5 @@
 use borrow.Author.Needs.{needs}
-use mathlib.Core.Path.{refl, subst}
+use mathlib.Core.Path.{subst}
 use lib.ListN.{length}
 use Rattle.event_scanner.proofs.LeftSide.{LeftIn, left-in}
 use Rattle.lines.specs.declared.left.LeftJudged.{LeftJudged}

@@ -1,6 +1,5 @@
 use borrow.Author.Needs.{needs}
 use mathlib.Core.Path.{sym, ap, _∙_}
-use Rattle.lines.specs.declared.left.LeftJudged.{LeftJudged}
 use Rattle.lines.specs.Line.{leftVerdict, rightVerdict}
 use Rattle.lines.proofs.line.judge_right.Statement.{statement}
 use Rattle.lines.proofs.line.judge_right.Tie as tie
