@@ -9,7 +9,7 @@ use Rattle.compiler.proofs.events.write_kept.Statement.{statement}
 use Rattle.compiler.proofs.events.write_kept.Tie as tie
 
 put-event-requires : tie.Need-put-event-requires
-put-event-requires c κs = search needs
+put-event-requires c κs = (c .before .before .before .pre, omega (arith, c .before .if1 .taken))
 
 same-length : tie.Need-same-length
 same-length c = search needs

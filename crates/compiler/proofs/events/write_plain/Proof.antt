@@ -26,8 +26,10 @@ write-kept-requires c κs = search needs
 element-count-requires : tie.Need-element-count-requires
 element-count-requires c κs =
     let a = c .before .before .before .before .before .before .before .before .before .before .before .args in
+    let h =
     spans-kept (a .l .now) (a .spans) (c .before .before .before .before .before .e .given .0 .0) (λ i. omega (arith, c .before .before .before .before .before .before .before .before .before .before .shared-slice-known .given i))
-    (sym (c .before .before .before .before .before .before .before .judge-event .ensures .0) ∙ c .before .before .before .before .before .e .given .1) .count-to
+    (sym (c .before .before .before .before .before .before .before .judge-event .ensures .0) ∙ c .before .before .before .before .before .e .given .1) in
+    omega (arith, h .count-to)
 
 returns : tie.Need-returns
 returns c =
