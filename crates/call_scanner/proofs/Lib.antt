@@ -1,2 +1,1 @@
 pub mod RightSide
-pub mod CallTotals

@@ -13,9 +13,7 @@ use Rattle.model.specs.Compiling.{passesLimit, withCalls, withEvents, lineRead,
 use Rattle.model.specs.Tables.{Call, Production}
 use Rattle.model.specs.declared.events.KeptEvent.{KeptEvent}
 use Rattle.event_scanner.specs.Spans.{eventsIn}
-use Rattle.event_scanner.specs.LeftSide.{leftOf}
 use Rattle.call_scanner.specs.RightSide.{parameterNumber, callsIn}
-use Rattle.event_scanner.proofs.LeftSide.{LeftIn, left-in}
 use Rattle.lines.specs.Totals.{totalsOf, heldLine}
 use Rattle.lines.specs.Line.{callsFound, callsStart}
 use Rattle.tables.specs.Layout as layout
@@ -25,7 +23,7 @@ use Rattle.tables.proofs.Lists.{length-flat, inAll-flat}
 use Rattle.tables.proofs.Images.{Room}
 use Rattle.tables.proofs.Facts.{limit-facts, events-in-all, calls-in-all, parameters-in-all}
 use Rattle.tables.proofs.Written as written
-use Rattle.compiler.specs.Puts.{putWritten, putCalls, putRest, putLine}
+use Rattle.compiler.specs.Puts.{putWritten, putCalls, putSides, putLine}
 use Rattle.compiler.specs.Reads.{EventsFit, CallsFit, LineFits}
 use Rattle.compiler.specs.Held.{soFar, held}
 use Rattle.compiler.proofs.Appended.{moreEvents, moreCalls, kept-length, put-events, put-calls, so-far-more}
@@ -165,9 +163,6 @@ module _ (ps : List Production) (base : ℕ) (l : List ℕ) (p : Production) (g 
   unfolding callsStart
   start = ap callsFound (g .left)
 
-  right-in : g .next ≤ length l
-  right-in = subst (LeftIn (length l) 0) (ap leftOf (g .left)) (left-in l) .1
-
   -- ---- The line fits
 
   pub line-fits : LineFits l (totalsOf ps) (heldLine (callsStart l) p)
@@ -180,7 +175,6 @@ module _ (ps : List Production) (base : ℕ) (l : List ℕ) (p : Production) (g 
       (omega (arith, n .calls, s .calls), omega (arith, n .parameters, s .parameters)) in
       record {
         events = subst (λ (r : EventsRead). EventsFit r (totalsOf ps .events)) (sym (g .left)) e;
-        right = subst (λ (k : ℕ). k ≤ length l) (sym start) right-in;
         calls = subst (λ (r : CallsRead). CallsFit r (totalsOf ps .calls) (totalsOf ps .parameters)) (sym (ap (rightSide l) start ∙ g .right)) c;
         production = omega (arith, n .productions, s .productions);
         few-events = omega (arith, s .kept, s .events);
@@ -253,7 +247,7 @@ module _ (ps : List Production) (base : ℕ) (l : List ℕ) (p : Production) (g 
         ∙ ap (λ (y : Entries). image y ++ rest) (so-far-more ps p)
 
     pub line-held : putLine base l (totalsOf ps) (heldLine (callsStart l) p) (held ps rest) ≡ held (ps ++ (p ∷ [])) rest
-    unfolding putLine putRest held heldLine
+    unfolding putLine putSides held heldLine
     line-held =
         ap
         (λ (o : List ℕ).

@@ -200,9 +200,11 @@ put-whole : (rest : List ℕ) (c : Call) (x : Entries) (n p : ℕ) → Room x �
 unfolding putWhole
 put-whole rest c x n p r e q b d =
     let z : length (x .calls) < 128 = omega arith in
-    ap (λ (m : ℕ). putParameters (putCall (image x ++ rest) m (c .second) (c .name) (length (c .parameters))) p (c .parameters)) e
-    ∙ ap (λ (l : List ℕ). putParameters l p (c .parameters)) (written.put-call x rest r c z)
-    ∙ put-parameters rest (c .parameters) (withCall x c) p (call-room x c r z) q d
+    let w : length (x .parameters) + length (c .parameters) ≤ 256 = omega arith in
+    let y = moreParameters x (c .parameters) in
+    ap (λ (l : List ℕ). putCall l n (c .second) (c .name) (length (c .parameters))) (put-parameters rest (c .parameters) x p r q d)
+    ∙ ap (λ (m : ℕ). putCall (image y ++ rest) m (c .second) (c .name) (length (c .parameters))) e
+    ∙ written.put-call y rest (spans-room x (c .parameters) r w) c z
 
 abbrev withBoth : Entries → List Call → List Span → Entries
 withBoth x cs ss =

@@ -3,21 +3,22 @@ use Prim.Native.Nat.{ℕ, _+_, _≤_}
 use native.Mathlib.Omega.{arith}
 use mathlib.Core.Path.{_≡_, refl, sym, ap, _∙_, subst}
 use mathlib.Core.Bool.{true, false}
-use mathlib.Core.List.{List, [], _∷_, _++_}
+use mathlib.Core.List.{List, [], _∷_, _++_, map}
 use mathlib.Core.Option.{none}
 use lib.ListN.{length, length-append}
 use borrow.Author.Tests.{eq-eqb, ne-eqb}
 use Rattle.model.specs.Lists.{part}
 use Rattle.model.specs.Lines.{lineEnd, lineAt, isBlankLine, directiveOf, directiveAt}
-use Rattle.model.specs.Compiling.{passesLimit, LineOutcome, add, lineOutcome}
+use Rattle.model.specs.Compiling.{callOf, passesLimit, LineOutcome, add, lineOutcome}
 use Rattle.model.specs.Tables.{Production}
-use Rattle.model.specs.Events.{leftSide}
+use Rattle.model.specs.Events.{EventsRead, events, leftSide}
 use Rattle.model.specs.Calls.{rightSide}
 use Rattle.model.specs.declared.scan.Class.{Class}
 use Rattle.model.specs.declared.events.Directive.{Directive}
+use Rattle.event_scanner.specs.Spans.{eventsIn}
 use Rattle.event_scanner.specs.LeftSide.{leftOf}
 use Rattle.event_scanner.specs.declared.left.LeftRead.{LeftRead}
-use Rattle.call_scanner.specs.RightSide.{rightOf}
+use Rattle.call_scanner.specs.RightSide.{callsIn, rightOf}
 use Rattle.call_scanner.specs.declared.right.RightRead.{RightRead}
 use Rattle.scanner.proofs.Runs.{run-from, run-in}
 use Rattle.lines.specs.declared.totals.Totals.{Totals}
@@ -25,12 +26,13 @@ use Rattle.lines.specs.declared.totals.Line.{Line}
 use Rattle.lines.specs.declared.left.LeftJudged.{LeftJudged}
 use Rattle.lines.specs.declared.line.LineJudged.{LineJudged}
 use Rattle.lines.specs.Totals.{totalsOf, heldLine, withLine, TotalsIn}
-use Rattle.lines.specs.Line.{callsStart, judgedOf, rightVerdict, sidesVerdict}
+use Rattle.lines.specs.Line.{callsFound, callsStart, judgedOf, rightVerdict, sidesVerdict}
 use Rattle.lines.proofs.Sums.{totals-more, totals-in}
 use Rattle.tables.specs.Layout.{image, tableLength}
 use Rattle.tables.proofs.Images.{length-image}
-use Rattle.compiler.specs.Puts.{putRest, putLine}
-use Rattle.compiler.specs.Reads.{EventsPut, AddedPut, LineFits}
+use Rattle.tables.specs.Writing.{putProduction}
+use Rattle.compiler.specs.Puts.{putWritten, putCalls, putSides, putLine}
+use Rattle.compiler.specs.Reads.{EventsFit, EventsPut, CallsFit, CallsPut, AddedPut, LineFits}
 use Rattle.compiler.specs.Held.{soFar, held}
 use Rattle.compiler.specs.Progress.{Underway, LineStep, going, stopped, outcomeStep, plainStep, stepDone, StepHeld}
 use Rattle.compiler.specs.declared.line.LineDone.{LineDone}
@@ -84,25 +86,42 @@ Stepped rest r out x = (r ≡ stepDone x) × StepHeld x rest out
 pub stepped : (rest : List ℕ) (r : LineDone) (out : List ℕ) {x y : LineStep} → y ≡ x → Stepped rest r out x → Stepped rest r out y
 stepped rest r out e h = subst (Stepped rest r out) (sym e) h
 
--- ---- The events of a line that is judged
+-- ---- What a line that is judged has written
 
-module _ (l : List ℕ) (k : ℕ) (before after : List ℕ) where
-  pub all-put : (r : LineJudged) → EventsPut l k before after → AddedPut l k before after r
-  all-put (LineJudged.Refuse n) h = tt
-  all-put (LineJudged.Add line) h = h
-
+module _ (base : ℕ) (l : List ℕ) (t : Totals) (before after : List ℕ) where
   -- a line with an event that is refused adds nothing
-  pub none-put : (t : Totals) (n : ℕ) (r : LineJudged) → r ≡ sidesVerdict t l (LeftJudged.Refuse n) (leftOf (leftSide l))
-      → AddedPut l k before after r
-  none-put t n r e = subst (AddedPut l k before after) (sym e) (sides (leftOf (leftSide l)))
+  pub none-put : (n : ℕ) (r : LineJudged) → r ≡ sidesVerdict t l (LeftJudged.Refuse n) (leftOf (leftSide l))
+      → AddedPut base l t before after r
+  none-put n r e = subst (AddedPut base l t before after) (sym e) (sides (leftOf (leftSide l)))
     where
-      right : (next : ℕ) (x : RightRead) → AddedPut l k before after (rightVerdict t next (LeftJudged.Refuse n) x)
+      right : (next : ℕ) (x : RightRead) → AddedPut base l t before after (rightVerdict t next (LeftJudged.Refuse n) x)
       right next RightRead.Broken = tt
       right next (RightRead.Right count parameters most) = tt
 
-      sides : (x : LeftRead) → AddedPut l k before after (sidesVerdict t l (LeftJudged.Refuse n) x)
+      sides : (x : LeftRead) → AddedPut base l t before after (sidesVerdict t l (LeftJudged.Refuse n) x)
       sides LeftRead.Broken = tt
       sides (LeftRead.Left next) = right next (rightOf (rightSide l next))
+
+  found : (r : EventsRead) (next : ℕ) → leftOf r ≡ LeftRead.Left next → callsFound r ≡ next
+  found EventsRead.broken next e = let z : _≡_ {A = ℕ} 0 1 = cc in absurd (omega arith)
+  found (events es end) next e = cc
+
+  -- the events and then the calls
+  both-put : (next : ℕ) (mid : List ℕ) → leftOf (leftSide l) ≡ LeftRead.Left next → EventsPut l (t .events) before mid
+      → CallsPut l base next (t .calls) (t .parameters) mid after
+      → EventsFit (leftSide l) (t .events) → CallsFit (rightSide l (callsStart l)) (t .calls) (t .parameters)
+      → after ≡ putSides base l t (callsStart l) before
+  unfolding callsStart putSides
+  both-put next mid e v w f h =
+      let s = found (leftSide l) next e in
+      w (subst (λ (k : ℕ). CallsFit (rightSide l k) (t .calls) (t .parameters)) s h)
+      ∙ ap (λ (o : List ℕ). putCalls o (t .calls) (t .parameters) (map (callOf base) (callsIn (rightSide l next)))) (v f)
+      ∙ ap (λ (k : ℕ). putCalls (putWritten before (t .events) (eventsIn (leftSide l))) (t .calls) (t .parameters) (map (callOf base) (callsIn (rightSide l k)))) (sym s)
+
+  pub sides-put : (r : LineJudged) (next : ℕ) (mid : List ℕ) → leftOf (leftSide l) ≡ LeftRead.Left next → EventsPut l (t .events) before mid
+      → CallsPut l base next (t .calls) (t .parameters) mid after → AddedPut base l t before after r
+  sides-put (LineJudged.Refuse n) next mid e v w = tt
+  sides-put (LineJudged.Add line) next mid e v w = both-put next mid e v w
 
 -- ---- The bytes so far
 
@@ -159,13 +178,20 @@ module _ (t : Totals) (out : List ℕ) (u : Underway t out) where
     pub added-in : TotalsIn (withLine t line)
     added-in = subst TotalsIn (sym added-totals) (totals-in (u .ps ++ (a .p ∷ [])) (adds .passes))
 
-    -- the events are written first, and then the rest
-    pub added-held : (mid new : List ℕ) → EventsPut l (t .events) out mid → new ≡ putRest base l t line mid
+    right-is : line .right ≡ callsStart l
+    unfolding heldLine
+    right-is = ap (λ (n : Line). n .right) (a .is)
+
+    -- its events and calls are written, and then its production
+    pub added-held : (mid new : List ℕ) → AddedPut base l t out mid (LineJudged.Add line)
+        → new ≡ putProduction mid (t .productions) (line .events) (line .calls)
         → new ≡ held (u .ps ++ (a .p ∷ [])) (u .rest)
     unfolding putLine
     added-held mid new w e =
         e
-        ∙ ap (putRest base l t line) (w (added-fits .events))
+        ∙ ap (λ (o : List ℕ). putProduction o (t .productions) (line .events) (line .calls))
+        (w (added-fits .events) (subst (λ (k : ℕ). CallsFit (rightSide l k) (t .calls) (t .parameters)) right-is (added-fits .calls))
+        ∙ ap (λ (k : ℕ). putSides base l t k out) (sym right-is))
         ∙ ap (putLine base l t line) (u .bytes)
         ∙ ap (λ (s : Totals). putLine base l s line (held (u .ps) (u .rest))) (u .totals)
         ∙ ap (λ (n : Line). putLine base l (totalsOf (u .ps)) n (held (u .ps) (u .rest))) (a .is)

@@ -38,27 +38,27 @@ unfoldable pub putParameters : List ℕ → ℕ → List Span → List ℕ
 putParameters out k [] = out
 putParameters out k (s ∷ ss) = putParameters (putParameter out k s) (k + 1) ss
 
--- call n, with its parameters from p on
+-- call n, after its parameters, which stand from p on
 unfoldable pub putWhole : List ℕ → ℕ → ℕ → Call → List ℕ
-putWhole out n p c = putParameters (putCall out n (c .second) (c .name) (length (c .parameters))) p (c .parameters)
+putWhole out n p c = putCall (putParameters out p (c .parameters)) n (c .second) (c .name) (length (c .parameters))
 
 -- calls from n on, with their parameters from p on
 unfoldable pub putCalls : List ℕ → ℕ → ℕ → List Call → List ℕ
 putCalls out n p [] = out
 putCalls out n p (c ∷ cs) = putCalls (putWhole out n p c) (n + 1) (p + length (c .parameters)) cs
 
--- the calls of a line that begins at `base`, and its production, after productions with these totals
-unfoldable pub putRest : ℕ → List ℕ → Totals → Line → List ℕ → List ℕ
-putRest base l t line out =
-    putProduction
-    (putCalls out (t .calls) (t .parameters) (map (callOf base) (callsIn (rightSide l (line .right)))))
-    (t .productions)
-    (line .events)
-    (line .calls)
+-- the events and calls of a line that begins at `base`, its calls at `right`, after productions with these totals
+unfoldable pub putSides : ℕ → List ℕ → Totals → ℕ → List ℕ → List ℕ
+putSides base l t right out =
+    putCalls
+    (putWritten out (t .events) (eventsIn (leftSide l)))
+    (t .calls)
+    (t .parameters)
+    (map (callOf base) (callsIn (rightSide l right)))
 
--- all of the line
+-- and its production
 unfoldable pub putLine : ℕ → List ℕ → Totals → Line → List ℕ → List ℕ
-putLine base l t line out = putRest base l t line (putWritten out (t .events) (eventsIn (leftSide l)))
+putLine base l t line out = putProduction (putSides base l t (line .right) out) (t .productions) (line .events) (line .calls)
 
 -- the header of a table of one text
 unfoldable pub putHeader : List ℕ → Directive → Totals → (text : ℕ) → List ℕ

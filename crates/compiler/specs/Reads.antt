@@ -1,23 +1,28 @@
 -- What the walks over a line come to and rely on: what they meet is in the grammar, and fits what is left of the table.
 use Prim.Native.Nat.{ℕ, _+_, _≤_, _<_}
 use mathlib.Core.Path.{_≡_}
-use mathlib.Core.List.{List, []}
+use mathlib.Core.Bool.{false}
+use mathlib.Core.List.{List, [], map}
 use lib.ListN.{length}
 use Rattle.model.specs.Lists.{inAll}
 use Rattle.model.specs.Events.{EventsRead, events, leftSide}
-use Rattle.model.specs.Calls.{Parameters, parameters, CallsRead, calls, rightSide}
+use Rattle.model.specs.Calls.{span, Parameters, parameters, parametersAt, CallsRead, calls, rightSide}
+use Rattle.model.specs.Compiling.{inText, callOf}
 use Rattle.model.specs.declared.scan.Span.{Span}
 use Rattle.event_scanner.specs.Spans.{eventsIn}
 use Rattle.event_scanner.specs.LeftSide.{leftOf}
 use Rattle.event_scanner.specs.declared.left.LeftRead.{LeftRead}
-use Rattle.call_scanner.specs.RightSide.{parameterNumber}
+use Rattle.call_scanner.specs.RightSide.{parameterNumber, callsIn}
+use Rattle.call_scanner.specs.declared.right.CallSpans.{CallSpans}
 use Rattle.lines.specs.Left.{IsRead, sideJudged}
+use Rattle.lines.specs.Line.{callsStart}
 use Rattle.lines.specs.declared.left.LeftJudged.{LeftJudged}
 use Rattle.lines.specs.declared.line.LineJudged.{LineJudged}
 use Rattle.lines.specs.declared.totals.Totals.{Totals}
 use Rattle.lines.specs.declared.totals.Line.{Line}
 use Rattle.compiler.specs.declared.events.LeftWritten.{LeftWritten}
-use Rattle.compiler.specs.Puts.{putWritten}
+use Rattle.tables.specs.Writing.{putCall}
+use Rattle.compiler.specs.Puts.{putWritten, putParameters, putCalls, putSides}
 
 -- from event k on
 abbrev pub EventsFit : EventsRead → ℕ → Type 0
@@ -35,11 +40,6 @@ LeftDone l k before after (LeftWritten.Refuse n) = IsRead (leftSide l) → sideJ
 LeftDone l k before after (LeftWritten.Read left next) =
     (leftOf (leftSide l) ≡ LeftRead.Left next) × (sideJudged (leftSide l) ≡ left) × EventsPut l k before after
 
--- a line that adds a production has its events in the bytes
-abbrev pub AddedPut : (l : List ℕ) (k : ℕ) (before after : List ℕ) → LineJudged → Type 0
-AddedPut l k before after (LineJudged.Refuse n) = Unit
-AddedPut l k before after (LineJudged.Add line) = EventsPut l k before after
-
 -- from parameter k on
 abbrev pub ParametersFit : Parameters → ℕ → Type 0
 ParametersFit Parameters.broken k = ⊥
@@ -54,10 +54,29 @@ abbrev pub CallsFit : CallsRead → ℕ → ℕ → Type 0
 CallsFit CallsRead.broken n p = ⊥
 CallsFit (calls cs) n p = (n + length cs ≤ 128) × (p + inAll parameterNumber cs ≤ 256)
 
+-- a call whose name and parameters were read: it is call n, its parameters stand from p on, and the bytes hold it where it fits
+abbrev pub CallPut : List ℕ → ℕ → (n p : ℕ) (before after : List ℕ) → CallSpans → Type 0
+CallPut l base n p before after CallSpans.Broken = Unit
+CallPut l base n p before after CallSpans.End = after ≡ before
+CallPut l base n p before after (CallSpans.Call start end count next) =
+    n < 128 → ParametersFit (parametersAt l (end + 1)) p
+    → after ≡ putCall (putParameters before p (map (inText base) (spansIn (parametersAt l (end + 1))))) n false (inText base (span start end)) count
+
+-- the bytes hold the calls of a line that begins at `base`, its calls at `right`, where they fit
+abbrev pub CallsPut : List ℕ → (base right n p : ℕ) (before after : List ℕ) → Type 0
+CallsPut l base right n p before after =
+    CallsFit (rightSide l right) n p → after ≡ putCalls before n p (map (callOf base) (callsIn (rightSide l right)))
+
+-- a line that adds a production has its events and calls in the bytes, where they fit
+abbrev pub AddedPut : (base : ℕ) (l : List ℕ) (t : Totals) (before after : List ℕ) → LineJudged → Type 0
+AddedPut base l t before after (LineJudged.Refuse n) = Unit
+AddedPut base l t before after (LineJudged.Add line) =
+    EventsFit (leftSide l) (t .events) → CallsFit (rightSide l (callsStart l)) (t .calls) (t .parameters)
+    → after ≡ putSides base l t (callsStart l) before
+
 -- a line that was judged, after productions with these totals
 pub record LineFits (l : List ℕ) (t : Totals) (line : Line) : Type 0 where
   pub events : EventsFit (leftSide l) (t .events)
-  pub right : line .right ≤ length l
   pub calls : CallsFit (rightSide l (line .right)) (t .calls) (t .parameters)
   pub production : t .productions < 64
   pub few-events : line .events ≤ 256

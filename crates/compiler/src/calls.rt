@@ -1,9 +1,13 @@
-// The calls of a line that was judged, and their parameters, written into the table: its right side is walked again.
+// The right side of a line, in one walk: each call is read and written into the table with its parameters, as far as there is room.
+use call_scanner::calls::call_at;
 use call_scanner::calls::parameter_at;
 use call_scanner::right::CallSpans;
 use call_scanner::right::ParametersOpen;
+use call_scanner::right::ParametersRead;
+use call_scanner::right::RightRead;
+use call_scanner::right::larger;
 use call_scanner::right::open_parameters;
-use call_scanner::right::read_call;
+use model::scan::CallRead;
 use model::scan::ParameterRead;
 use model::scan::Span;
 use tables::write::put_call;
@@ -11,14 +15,14 @@ use tables::write::put_parameter;
 ghost use mathlib.Core.Path.{_≡_};
 ghost use mathlib.Core.List.{map};
 ghost use mathlib.Core.Bool.{false};
-ghost use Prim.Native.Nat.{_+_, _-_, _≤_, _<_};
+ghost use Prim.Native.Nat.{_+_, _≤_, _<_};
 ghost use lib.ListN.{length};
-ghost use Rattle.model.specs.Calls.{span, parametersFrom, parametersAt, rightSide};
-ghost use Rattle.model.specs.Compiling.{inText, callOf};
-ghost use Rattle.call_scanner.specs.RightSide.{callsIn};
+ghost use Rattle.model.specs.Calls.{span, parametersFrom, parametersAt, callAt, rightSide};
+ghost use Rattle.model.specs.Compiling.{inText};
+ghost use Rattle.call_scanner.specs.RightSide.{parametersCounted, callSpans, rightOf};
 ghost use Rattle.tables.specs.Writing.{putParameter, putCall};
-ghost use Rattle.compiler.specs.Puts.{putParameters, putCalls};
-ghost use Rattle.compiler.specs.Reads.{ParametersFit, spansIn, CallsFit};
+ghost use Rattle.compiler.specs.Puts.{putParameters};
+ghost use Rattle.compiler.specs.Reads.{ParametersFit, spansIn, CallPut, CallsPut};
 ghost use Rattle.tables.specs.Layout.{tableLength};
 
 // A part of a line that begins at `base`, as a part of its text.
@@ -32,84 +36,139 @@ fn in_text(start: usize, end: usize, base: usize) -> Span
     }
 }
 
-// One parameter.
+// Parameter k, where the table has room for it.
 fn write_parameter(start: usize, end: usize, base: usize, out: &mut [u8], k: usize)
-    requires { ⌜ ((start ≤ end) × (base + end ≤ 8192)) × ((tableLength ≤ length (now out)) × (k < 256)) ⌝ }
-    ensures { λ r. ⌜ now (out .exit) ≡ putParameter (now (out .entry)) k (inText base (span start end)) ⌝ }
+    requires { ⌜ ((start ≤ end) × (base + end ≤ 8192)) × (tableLength ≤ length (now out)) ⌝ }
+    ensures { λ r. ⌜ (k < 256 → now (out .exit) ≡ putParameter (now (out .entry)) k (inText base (span start end))) ⌝ }
 {
-    let s = in_text(start, end, base);
-    put_parameter(out, k, s);
+    if k < 256 {
+        let s = in_text(start, end, base);
+        put_parameter(out, k, s);
+    }
 }
 
 // The parameters of a call, from the first of them on.
-pub fn write_parameters(l: &[u8], at: usize, base: usize, out: &mut [u8], first: usize)
-    requires { ⌜ ((at ≤ length (now l)) × (base + length (now l) ≤ 8192)) × ((tableLength ≤ length (now out)) × ParametersFit (parametersFrom (length (now l) + 1) (now l) at) first) ⌝ }
-    ensures { λ r. ⌜ now (out .exit) ≡ putParameters (now (out .entry)) first (map (inText base) (spansIn (parametersFrom (length (now (l .entry)) + 1) (now (l .entry)) at))) ⌝ }
+pub fn write_parameters(
+    l: &[u8],
+    at: usize,
+    base: usize,
+    out: &mut [u8],
+    first: usize,
+) -> ParametersRead
+    requires { ⌜ ((at ≤ length (now l)) × (base + length (now l) ≤ 8192)) × ((tableLength ≤ length (now out)) × (first ≤ 16384)) ⌝ }
+    ensures { λ r. ⌜ (r ≡ parametersCounted (parametersFrom (length (now (l .entry)) + 1) (now (l .entry)) at))
+        × (ParametersFit (parametersFrom (length (now (l .entry)) + 1) (now (l .entry)) at) first →
+        now (out .exit) ≡ putParameters (now (out .entry)) first (map (inText base) (spansIn (parametersFrom (length (now (l .entry)) + 1) (now (l .entry)) at)))) ⌝ }
 {
     let mut i = at;
-    let mut k = first;
+    let mut count: usize = 0;
     loop {
         match parameter_at(l, i) {
-            ParameterRead::Broken => return,
+            ParameterRead::Broken => return ParametersRead::Broken,
             ParameterRead::More { start, end, next } => {
-                write_parameter(start, end, base, out, k);
-                k += 1;
+                write_parameter(start, end, base, out, first + count);
+                count += 1;
                 i = next;
             }
-            ParameterRead::Last {
-                start,
-                end,
-                next: _,
-            } => {
-                write_parameter(start, end, base, out, k);
-                return;
+            ParameterRead::Last { start, end, next } => {
+                write_parameter(start, end, base, out, first + count);
+                return ParametersRead::Parameters {
+                    count: count + 1,
+                    next,
+                };
             }
         }
     }
 }
 
 // After the opening bracket.
-pub fn write_bracket(l: &[u8], at: usize, base: usize, out: &mut [u8], first: usize)
-    requires { ⌜ ((at ≤ length (now l)) × (base + length (now l) ≤ 8192)) × ((tableLength ≤ length (now out)) × ParametersFit (parametersAt (now l) at) first) ⌝ }
-    ensures { λ r. ⌜ now (out .exit) ≡ putParameters (now (out .entry)) first (map (inText base) (spansIn (parametersAt (now (l .entry)) at))) ⌝ }
+pub fn write_bracket(
+    l: &[u8],
+    at: usize,
+    base: usize,
+    out: &mut [u8],
+    first: usize,
+) -> ParametersRead
+    requires { ⌜ ((at ≤ length (now l)) × (base + length (now l) ≤ 8192)) × ((tableLength ≤ length (now out)) × (first ≤ 16384)) ⌝ }
+    ensures { λ r. ⌜ (r ≡ parametersCounted (parametersAt (now (l .entry)) at))
+        × (ParametersFit (parametersAt (now (l .entry)) at) first →
+        now (out .exit) ≡ putParameters (now (out .entry)) first (map (inText base) (spansIn (parametersAt (now (l .entry)) at)))) ⌝ }
 {
     match open_parameters(l, at) {
-        ParametersOpen::Empty(_) => (),
+        ParametersOpen::Empty(next) => ParametersRead::Parameters { count: 0, next },
         ParametersOpen::First(start) => write_parameters(l, start, base, out, first),
     }
 }
 
-// A call's name, with how many parameters it has.
+// Call n, with how many parameters it has, where the table has room for it.
 fn write_name(start: usize, end: usize, count: usize, base: usize, out: &mut [u8], n: usize)
-    requires { ⌜ ((start ≤ end) × (base + end ≤ 8192) × (count ≤ 8192)) × ((tableLength ≤ length (now out)) × (n < 128)) ⌝ }
-    ensures { λ r. ⌜ now (out .exit) ≡ putCall (now (out .entry)) n false (inText base (span start end)) count ⌝ }
+    requires { ⌜ ((start ≤ end) × (base + end ≤ 8192) × (count ≤ 8192)) × (tableLength ≤ length (now out)) ⌝ }
+    ensures { λ r. ⌜ (n < 128 → now (out .exit) ≡ putCall (now (out .entry)) n false (inText base (span start end)) count) ⌝ }
 {
-    let s = in_text(start, end, base);
-    put_call(out, n, false, s, count);
+    if n < 128 {
+        let s = in_text(start, end, base);
+        put_call(out, n, false, s, count);
+    }
+}
+
+// The next call, as call n, with its parameters from p on.
+pub fn write_call(l: &[u8], at: usize, base: usize, out: &mut [u8], n: usize, p: usize) -> CallSpans
+    requires { ⌜ ((at ≤ length (now l)) × (base + length (now l) ≤ 8192)) × ((tableLength ≤ length (now out)) × (p ≤ 16384)) ⌝ }
+    ensures { λ r. ⌜ (r ≡ callSpans (now (l .entry)) (callAt (now (l .entry)) at)) × CallPut (now (l .entry)) base n p (now (out .entry)) (now (out .exit)) r ⌝ }
+{
+    match call_at(l, at) {
+        CallRead::Broken => CallSpans::Broken,
+        CallRead::End => CallSpans::End,
+        CallRead::Name { start, end } => match write_bracket(l, end + 1, base, out, p) {
+            ParametersRead::Broken => CallSpans::Broken,
+            ParametersRead::Parameters { count, next } => {
+                write_name(start, end, count, base, out, n);
+                CallSpans::Call {
+                    start,
+                    end,
+                    count,
+                    next,
+                }
+            }
+        },
+    }
 }
 
 // The calls of a line from a position on: calls from n on, with their parameters from p on.
-pub fn write_calls(l: &[u8], at: usize, base: usize, out: &mut [u8], n: usize, p: usize)
-    requires { ⌜ ((at ≤ length (now l)) × (base + length (now l) ≤ 8192)) × ((tableLength ≤ length (now out)) × CallsFit (rightSide (now l) at) n p) ⌝ }
-    ensures { λ r. ⌜ now (out .exit) ≡ putCalls (now (out .entry)) n p (map (callOf base) (callsIn (rightSide (now (l .entry)) at))) ⌝ }
+pub fn write_right(
+    l: &[u8],
+    at: usize,
+    base: usize,
+    out: &mut [u8],
+    n: usize,
+    p: usize,
+) -> RightRead
+    requires { ⌜ ((at ≤ length (now l)) × (base + length (now l) ≤ 8192)) × ((tableLength ≤ length (now out)) × (n ≤ 128) × (p ≤ 256)) ⌝ }
+    ensures { λ r. ⌜ (r ≡ rightOf (rightSide (now (l .entry)) at)) × CallsPut (now (l .entry)) base at n p (now (out .entry)) (now (out .exit)) ⌝ }
 {
     let mut i = at;
-    let mut k = n;
-    let mut first = p;
+    let mut calls: usize = 0;
+    let mut parameters: usize = 0;
+    let mut most: usize = 0;
     loop {
-        match read_call(l, i) {
-            CallSpans::Broken => return,
-            CallSpans::End => return,
+        match write_call(l, i, base, out, n + calls, p + parameters) {
+            CallSpans::Broken => return RightRead::Broken,
+            CallSpans::End => {
+                return RightRead::Right {
+                    calls,
+                    parameters,
+                    most,
+                };
+            }
             CallSpans::Call {
-                start,
-                end,
+                start: _,
+                end: _,
                 count,
                 next,
             } => {
-                write_name(start, end, count, base, out, k);
-                write_bracket(l, end + 1, base, out, first);
-                k += 1;
-                first += count;
+                calls += 1;
+                parameters += count;
+                most = larger(most, count);
                 i = next;
             }
         }

@@ -1,5 +1,5 @@
-// The compiler: from text to a table in lent memory. The events of a line are written as they are judged, the rest of it once the
-// whole line is judged; a refusal clears the table.
+// The compiler: from text to a table in lent memory. Each side of a line is walked once: events and calls are
+// written as they are read, the production once the whole line is judged. A refusal clears the table.
 mod calls;
 mod events;
 mod line;

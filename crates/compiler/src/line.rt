@@ -1,12 +1,11 @@
-// One line of a text: its events are judged and written, then it is judged whole, and then the rest of it is written.
-use crate::calls::write_calls;
+// One line of a text: its events and calls are written as they are read, and its production once the whole line is judged.
+use crate::calls::write_right;
 use crate::events::LeftWritten;
 use crate::events::write_left;
 use lines::left::LeftJudged;
 use lines::line::LineJudged;
 use lines::line::judge_right;
 use lines::line::judge_sides;
-use lines::totals::Line;
 use lines::totals::Totals;
 use lines::totals::with_line;
 use lookup::FirstLine;
@@ -18,15 +17,13 @@ ghost use mathlib.Core.Bool.{false};
 ghost use mathlib.Core.List.{List};
 ghost use Prim.Native.Nat.{ℕ, _+_, _≤_};
 ghost use lib.ListN.{length};
-ghost use Rattle.model.specs.Limits.{textLimit};
 ghost use Rattle.model.specs.Tables.{Production};
 ghost use Rattle.model.specs.Compiling.{passesLimit, lineOutcome};
 ghost use Rattle.model.specs.Lines.{lineEnd, lineAt, directiveAt};
 ghost use Rattle.lookup.specs.Find.{directiveGiven};
 ghost use Rattle.lines.specs.Totals.{totalsOf, TotalsIn};
 ghost use Rattle.lines.specs.Line.{callsStart, judgedOf};
-ghost use Rattle.compiler.specs.Puts.{putRest};
-ghost use Rattle.compiler.specs.Reads.{LineFits, AddedPut};
+ghost use Rattle.compiler.specs.Reads.{AddedPut};
 ghost use Rattle.compiler.specs.Progress.{Underway, plainStep, lineStep, stepDone, StepHeld};
 ghost use Rattle.tables.specs.Layout.{tableLength};
 
@@ -53,27 +50,21 @@ pub fn directive_at(text: &[u8], at: usize, end: usize) -> FirstLine
     FirstLine::Absent
 }
 
-// A line that is not blank: its events are written as they are judged, after productions with these totals.
-pub fn judge_line(l: &[u8], out: &mut [u8], t: Totals) -> LineJudged
-    requires { ⌜ ((length (now l) ≤ textLimit) × (tableLength ≤ length (now out))) × TotalsIn t ⌝ }
-    ensures { λ r. ⌜ ((ps : List Production) (base : ℕ) → t ≡ totalsOf ps → passesLimit ps ≡ false →
-        r ≡ judgedOf (callsStart (now (l .entry))) (lineOutcome ps base (now (l .entry))))
-        × AddedPut (now (l .entry)) (t .events) (now (out .entry)) (now (out .exit)) r ⌝ }
+// A line that is not blank: its events and calls are written as they are read, after productions with these totals.
+pub fn judge_line(l: &[u8], base: usize, out: &mut [u8], t: Totals) -> LineJudged
+    requires { ⌜ ((base + length (now l) ≤ 8192) × (tableLength ≤ length (now out))) × TotalsIn t ⌝ }
+    ensures { λ r. ⌜ ((ps : List Production) (at : ℕ) → t ≡ totalsOf ps → passesLimit ps ≡ false →
+        r ≡ judgedOf (callsStart (now (l .entry))) (lineOutcome ps at (now (l .entry))))
+        × AddedPut base (now (l .entry)) t (now (out .entry)) (now (out .exit)) r ⌝ }
 {
     match write_left(l, out, t.events) {
         LeftWritten::Broken => LineJudged::Refuse(4),
         LeftWritten::Refuse(n) => judge_sides(l, t, LeftJudged::Refuse(n)),
-        LeftWritten::Read { left, next } => judge_right(l, t, left, next),
+        LeftWritten::Read { left, next } => {
+            let right = write_right(l, next, base, out, t.calls, t.parameters);
+            judge_right(t, left, next, right)
+        }
     }
-}
-
-// What is left to write of a line that adds a production.
-pub fn write_line(l: &[u8], base: usize, out: &mut [u8], t: Totals, line: Line)
-    requires { ⌜ ((tableLength ≤ length (now out)) × (base + length (now l) ≤ 8192)) × LineFits (now l) t line ⌝ }
-    ensures { λ r. ⌜ now (out .exit) ≡ putRest base (now (l .entry)) t line (now (out .entry)) ⌝ }
-{
-    write_calls(l, line.right, base, out, t.calls, t.parameters);
-    put_production(out, t.productions, line.events, line.calls);
 }
 
 // A line that is no directive.
@@ -88,10 +79,10 @@ pub fn add_line(l: &[u8], base: usize, out: &mut [u8], s: Progress) -> LineDone
     }
     let totals = s.totals;
     let directive = s.directive;
-    match judge_line(l, out, totals) {
+    match judge_line(l, base, out, totals) {
         LineJudged::Refuse(n) => LineDone::Refused(n),
         LineJudged::Add(line) => {
-            write_line(l, base, out, totals, line);
+            put_production(out, totals.productions, line.events, line.calls);
             let more = with_line(totals, line);
             LineDone::Done(Progress {
                 directive,

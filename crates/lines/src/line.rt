@@ -8,12 +8,8 @@ use call_scanner::right::right_side;
 use event_scanner::left::LeftRead;
 use event_scanner::left::left_side;
 ghost use mathlib.Core.Path.{_≡_};
-ghost use Prim.Native.Nat.{_≤_};
-ghost use lib.ListN.{length};
 ghost use Rattle.model.specs.Events.{leftSide};
-ghost use Rattle.model.specs.Calls.{rightSide};
 ghost use Rattle.event_scanner.specs.LeftSide.{leftOf};
-ghost use Rattle.call_scanner.specs.RightSide.{rightOf};
 ghost use Rattle.lines.specs.Totals.{withLine, TotalsIn};
 ghost use Rattle.lines.specs.Line.{linePasses, allPass, limited, rightVerdict, sidesVerdict};
 
@@ -55,13 +51,13 @@ pub fn limit(t: Totals, line: Line, most: usize) -> LineJudged
     LineJudged::Add(line)
 }
 
-// The answer to a line by its right side, which begins at `next`, and by what its left side came to: 4, then the refusal of an
-// event, then 11 with that line counted. `t` are the totals of the lines before it.
-pub fn judge_right(l: &[u8], t: Totals, left: LeftJudged, next: usize) -> LineJudged
-    requires { ⌜ (next ≤ length (now l)) × TotalsIn t ⌝ }
-    ensures { λ r. ⌜ r ≡ rightVerdict t next left (rightOf (rightSide (now (l .entry)) next)) ⌝ }
+// The answer to a line by what its left side and its right side, which begins at `next`, came to: 4, then the refusal of an event,
+// then 11 with that line counted. `t` are the totals of the lines before it.
+pub fn judge_right(t: Totals, left: LeftJudged, next: usize, right: RightRead) -> LineJudged
+    requires { ⌜ TotalsIn t ⌝ }
+    ensures { λ r. ⌜ r ≡ rightVerdict t next left right ⌝ }
 {
-    match right_side(l, next) {
+    match right {
         RightRead::Broken => LineJudged::Refuse(4),
         RightRead::Right {
             calls,
@@ -91,6 +87,9 @@ pub fn judge_sides(l: &[u8], t: Totals, left: LeftJudged) -> LineJudged
 {
     match left_side(l) {
         LeftRead::Broken => LineJudged::Refuse(4),
-        LeftRead::Left { next } => judge_right(l, t, left, next),
+        LeftRead::Left { next } => {
+            let right = right_side(l, next);
+            judge_right(t, left, next, right)
+        }
     }
 }

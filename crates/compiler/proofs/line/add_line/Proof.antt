@@ -31,7 +31,7 @@ judge-line-requires c κs =
     let s = c .before .before .before .before .before .before in
     let t = s .args .s .totals in
     let u = s .pre .1 in
-    ((omega (arith, s .pre .0), omega (arith, underway-length t (s .args .out .now) u)), underway-in t (s .args .out .now) u)
+    ((s .pre .0, omega (arith, underway-length t (s .args .out .now) u)), underway-in t (s .args .out .now) u)
 
 enum-known-n : tie.Need-enum-known-n
 enum-known-n c = search needs
@@ -39,13 +39,14 @@ enum-known-n c = search needs
 enum-known-line : tie.Need-enum-known-line
 enum-known-line c = search needs
 
-write-line-requires : tie.Need-write-line-requires
-write-line-requires c κs =
+put-production-requires : tie.Need-put-production-requires
+put-production-requires c κs =
     let s = c .before .before .before .before .before .before .before .before .before .before .before .before .before in
     let t = s .args .s .totals in
     let out = s .args .out .now in
     let u = s .pre .1 in
-    ((omega (arith, underway-length t out u, c .before .before .before .before .before .before .judge-line .kept .1 .0), s .pre .0), added-fits t out u (s .args .base) (s .args .l .now) (c .before .before .line .given .0 .0) (adds (c .before) u))
+    let f = added-fits t out u (s .args .base) (s .args .l .now) (c .before .before .line .given .0 .0) (adds (c .before) u) in
+    ((omega (arith, underway-length t out u, c .before .before .before .before .before .before .judge-line .kept .1 .1 .0), f .production), (omega (arith, f .few-events), omega (arith, f .few-calls)))
 
 with-line-requires : tie.Need-with-line-requires
 with-line-requires c κs =
@@ -73,9 +74,9 @@ returns-3 c u =
     let l = a .l .now in
     let line = c .before .before .before .before .before .before .line .given .0 .0 in
     let x = adds (c .before .before .before .before .before) u in
-    let w = subst (AddedPut l (t .events) (a .out .now) (c .before .before .before .before .before .before .before .before .before .before .judge-line .last .1 .0)) (c .before .before .before .before .before .before .line .given .1) (c .before .before .before .before .before .before .before .before .before .before .judge-line .ensures .1) in
+    let w = subst (AddedPut (a .base) l t (a .out .now) (c .before .before .before .before .before .before .before .before .before .before .judge-line .last .1 .1 .0)) (c .before .before .before .before .before .before .line .given .1) (c .before .before .before .before .before .before .before .before .before .before .judge-line .ensures .1) in
     stepped (u .rest) _ _ (plain-added (a .s .directive) (u .ps) (a .base) l (x .p) (sym (c .before .before .before .before .before .before .before .before .before .before .before .before .before .before .is-blank-line .ensures) ∙ c .before .before .before .before .before .before .before .before .before .before .before .before .before .if1 .left) (x .outcome))
-    (ap (λ (n : Totals). LineDone.Done (record { directive = a .s .directive; totals = n })) (c .with-line .ensures ∙ added-totals t (a .out .now) u (a .base) l line x), added-held t (a .out .now) u (a .base) l line x (c .before .before .before .before .before .before .before .before .before .before .judge-line .last .1 .0) (c .before .before .before .write-line .last .1 .1 .0) w (c .before .before .before .write-line .ensures))
+    (ap (λ (n : Totals). LineDone.Done (record { directive = a .s .directive; totals = n })) (c .with-line .ensures ∙ added-totals t (a .out .now) u (a .base) l line x), added-held t (a .out .now) u (a .base) l line x (c .before .before .before .before .before .before .before .before .before .before .judge-line .last .1 .1 .0) (c .before .before .before .put-production .last .0) w (c .before .before .before .put-production .ensures))
 
 pub add-line-spec : {M : Type 1} → statement M
 add-line-spec =
@@ -86,7 +87,7 @@ add-line-spec =
     judge-line-requires
     enum-known-n
     enum-known-line
-    write-line-requires
+    put-production-requires
     with-line-requires
     same-length
     returns-2

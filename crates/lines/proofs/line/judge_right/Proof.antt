@@ -4,14 +4,11 @@ use Rattle.lines.specs.Line.{leftVerdict, rightVerdict}
 use Rattle.lines.proofs.line.judge_right.Statement.{statement}
 use Rattle.lines.proofs.line.judge_right.Tie as tie
 
-right-side-requires : tie.Need-right-side-requires
-right-side-requires c κs = search needs
-
 enum-told : tie.Need-enum-told
 enum-told c = search needs
 
-enum-known-calls : tie.Need-enum-known-calls
-enum-known-calls c = search needs
+enum-known-right : tie.Need-enum-known-right
+enum-known-right c = search needs
 
 enum-known-left : tie.Need-enum-known-left
 enum-known-left c = search needs
@@ -27,38 +24,37 @@ limit-requires c κs = search needs
 
 returns : tie.Need-returns
 returns c =
-    let a = c .before .before .before .before .args in
-    ap (rightVerdict (a .t) (a .next) (a .left)) (sym (c .enum-told .given .1) ∙ c .before .before .right-side .ensures)
+    let a = c .before .before .args in
+    ap (rightVerdict (a .t) (a .next) (a .left)) (sym (c .enum-told .given .1))
 
 returns-2 : tie.Need-returns-2
 returns-2 c =
-    let a = c .before .before .before .before .before .before .before .before .args in
-    let g = c .before .before .before .before .calls .given in
+    let a = c .before .before .before .before .before .before .args in
+    let g = c .before .before .before .before .right .given in
     ap (leftVerdict (a .t) (a .next) (g .0 .0) (g .0 .1 .0) (g .0 .1 .1 .0)) (sym (c .before .left .given .1))
-    ∙ ap (rightVerdict (a .t) (a .next) (a .left)) (sym (g .1) ∙ c .before .before .before .before .before .before .right-side .ensures)
+    ∙ ap (rightVerdict (a .t) (a .next) (a .left)) (sym (g .1))
 
 returns-3 : tie.Need-returns-3
 returns-3 c =
-    let a = c .before .before .before .before .before .before .before .args in
-    let g = c .before .before .before .calls .given in
+    let a = c .before .before .before .before .before .args in
+    let g = c .before .before .before .right .given in
     ap (leftVerdict (a .t) (a .next) (g .0 .0) (g .0 .1 .0) (g .0 .1 .1 .0)) (sym (c .enum-told2 .given .1))
-    ∙ ap (rightVerdict (a .t) (a .next) (a .left)) (sym (g .1) ∙ c .before .before .before .before .before .right-side .ensures)
+    ∙ ap (rightVerdict (a .t) (a .next) (a .left)) (sym (g .1))
 
 returns-4 : tie.Need-returns-4
 returns-4 c =
-    let a = c .before .before .before .before .before .before .before .before .before .args in
-    let g = c .before .before .before .before .before .calls .given in
+    let a = c .before .before .before .before .before .before .before .args in
+    let g = c .before .before .before .before .before .right .given in
     c .limit .ensures
     ∙ ap (leftVerdict (a .t) (a .next) (g .0 .0) (g .0 .1 .0) (g .0 .1 .1 .0)) (sym (c .before .before .left2 .given .1))
-    ∙ ap (rightVerdict (a .t) (a .next) (a .left)) (sym (g .1) ∙ c .before .before .before .before .before .before .before .right-side .ensures)
+    ∙ ap (rightVerdict (a .t) (a .next) (a .left)) (sym (g .1))
 
 pub judge-right-spec : {M : Type 1} → statement M
 judge-right-spec =
     tie.close
     (tie.spec
-    right-side-requires
     enum-told
-    enum-known-calls
+    enum-known-right
     enum-known-left
     enum-told-2
     enum-known-left-2
