@@ -15,6 +15,7 @@ pub enum StepJudged {
     // Neither an event nor a key sequence.
     Broken,
     Refuse(u8),
+    // The events are all that were read, also where one is crowded.
     Keep {
         events: usize,
         elements: usize,
