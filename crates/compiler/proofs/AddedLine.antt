@@ -23,10 +23,12 @@ use Rattle.tables.proofs.Lists.{length-flat, inAll-flat}
 use Rattle.tables.proofs.Images.{Room}
 use Rattle.tables.proofs.Facts.{limit-facts, events-in-all, calls-in-all, parameters-in-all}
 use Rattle.tables.proofs.Written as written
-use Rattle.compiler.specs.Puts.{putWritten, putCalls, putSides, putLine}
-use Rattle.compiler.specs.Reads.{EventsFit, CallsFit, LineFits}
+use Rattle.line_writer.specs.Puts.{putWritten, putCalls}
+use Rattle.line_writer.specs.Reads.{EventsFit, CallsFit}
+use Rattle.line_writer.proofs.AllKept.{kept-length}
+use Rattle.compiler.specs.WholeLine.{putSides, putLine, LineFits}
 use Rattle.compiler.specs.Held.{soFar, held}
-use Rattle.compiler.proofs.Appended.{moreEvents, moreCalls, kept-length, put-events, put-calls, so-far-more}
+use Rattle.compiler.proofs.Appended.{moreEvents, moreCalls, put-events, put-calls, so-far-more}
 
 -- ---- What a line that adds a production is
 

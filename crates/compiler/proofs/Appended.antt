@@ -1,12 +1,12 @@
 -- Entries written one after the other into bytes that hold entries: they hold all of them.
-use Prim.Native.Nat.{ℕ, suc, _+_, _≤_, _<_}
+use Prim.Native.Nat.{ℕ, _+_, _≤_, _<_}
 use native.Mathlib.Omega.{arith}
 use mathlib.Core.Path.{_≡_, refl, sym, ap, _∙_}
 use mathlib.Core.List.{List, [], _∷_, _++_, append-nil, append-assoc, map-append}
 use lib.ListN.{length, length-append}
 use Rattle.model.specs.Events.{WrittenEvent}
 use Rattle.model.specs.Judging.{judged}
-use Rattle.model.specs.Compiling.{EventsJudged, keep, crowded, keepOneMore, crowdedWith, judgedNext, judgedAll}
+use Rattle.model.specs.Compiling.{keep, judgedAll}
 use Rattle.model.specs.Tables.{Call, Production}
 use Rattle.model.specs.declared.scan.Span.{Span}
 use Rattle.model.specs.declared.events.KeptEvent.{KeptEvent}
@@ -16,7 +16,8 @@ use Rattle.tables.specs.Writing.{putEvent, putCall, putParameter, withEvent, wi
 use Rattle.tables.proofs.Lists.{flat-append}
 use Rattle.tables.proofs.Images.{Room}
 use Rattle.tables.proofs.Written as written
-use Rattle.compiler.specs.Puts.{putJudged, putWritten, putParameters, putWhole, putCalls}
+use Rattle.line_writer.specs.Puts.{putJudged, putWritten, putParameters, putWhole, putCalls}
+use Rattle.line_writer.proofs.AllKept.{kept-first, none-kept}
 use Rattle.compiler.specs.Held.{soFar}
 
 -- ---- Entries with more of them
@@ -55,46 +56,6 @@ moreCalls x cs =
     }
 
 -- ---- Events
-
--- the first event of a list that is kept is kept
-pub record KeptFirst (e : WrittenEvent) (es : List WrittenEvent) (ks : List KeptEvent) : Type 0 where
-  pub first : KeptEvent
-  pub others : List KeptEvent
-  pub is : judged e ≡ Judged.Keep first
-  pub are : judgedAll es ≡ keep others
-  pub all : ks ≡ first ∷ others
-
-kept-rest : (e : WrittenEvent) (es : List WrittenEvent) (ks : List KeptEvent) (k : KeptEvent) (r : EventsJudged)
-    → judged e ≡ Judged.Keep k → judgedAll es ≡ r → keepOneMore k r ≡ keep ks → KeptFirst e es ks
-kept-rest e es ks k (keep os) p q h = record { first = k; others = os; is = p; are = q; all = cc }
-kept-rest e es ks k crowded p q h = let z : _≡_ {A = ℕ} 0 1 = cc in absurd (omega arith)
-kept-rest e es ks k (EventsJudged.refuse n) p q h = let z : _≡_ {A = ℕ} 0 1 = cc in absurd (omega arith)
-
-not-kept : (r : EventsJudged) (ks : List KeptEvent) → crowdedWith r ≡ keep ks → ⊥
-not-kept (keep os) ks h = let z : _≡_ {A = ℕ} 0 1 = cc in omega arith
-not-kept crowded ks h = let z : _≡_ {A = ℕ} 0 1 = cc in omega arith
-not-kept (EventsJudged.refuse n) ks h = let z : _≡_ {A = ℕ} 0 1 = cc in omega arith
-
-kept-judged : (e : WrittenEvent) (es : List WrittenEvent) (ks : List KeptEvent) (j : Judged) → judged e ≡ j
-    → judgedNext j (judgedAll es) ≡ keep ks → KeptFirst e es ks
-kept-judged e es ks (Judged.Keep k) p h = kept-rest e es ks k (judgedAll es) p refl h
-kept-judged e es ks Judged.Crowded p h = absurd (not-kept (judgedAll es) ks h)
-kept-judged e es ks (Judged.Refuse n) p h = let z : _≡_ {A = ℕ} 0 1 = cc in absurd (omega arith)
-
-kept-first : (e : WrittenEvent) (es : List WrittenEvent) (ks : List KeptEvent) → judgedAll (e ∷ es) ≡ keep ks → KeptFirst e es ks
-unfolding judgedAll
-kept-first e es ks h = kept-judged e es ks (judged e) refl h
-
-none-kept : (ks : List KeptEvent) → judgedAll [] ≡ keep ks → ks ≡ []
-unfolding judgedAll
-none-kept ks h = cc
-
--- as many are kept as are written
-pub kept-length : (es : List WrittenEvent) (ks : List KeptEvent) → judgedAll es ≡ keep ks → length ks ≡ length es
-kept-length [] ks h = ap length (none-kept ks h)
-kept-length (e ∷ es) ks h =
-    let f = kept-first e es ks h in
-    ap length (f .all) ∙ ap suc (kept-length es (f .others) (f .are))
 
 put-first : (out : List ℕ) (i : ℕ) (e : WrittenEvent) (es : List WrittenEvent) (k : KeptEvent) → judged e ≡ Judged.Keep k
     → putWritten out i (e ∷ es) ≡ putWritten (putEvent out i k) (i + 1) es

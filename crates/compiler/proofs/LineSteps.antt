@@ -31,8 +31,9 @@ use Rattle.lines.proofs.Sums.{totals-more, totals-in}
 use Rattle.tables.specs.Layout.{image, tableLength}
 use Rattle.tables.proofs.Images.{length-image}
 use Rattle.tables.specs.Writing.{putProduction}
-use Rattle.compiler.specs.Puts.{putWritten, putCalls, putSides, putLine}
-use Rattle.compiler.specs.Reads.{EventsFit, EventsPut, CallsFit, CallsPut, AddedPut, LineFits}
+use Rattle.line_writer.specs.Puts.{putWritten, putCalls}
+use Rattle.line_writer.specs.Reads.{EventsFit, EventsPut, CallsFit, CallsPut}
+use Rattle.compiler.specs.WholeLine.{putSides, putLine, AddedPut, LineFits}
 use Rattle.compiler.specs.Held.{soFar, held}
 use Rattle.compiler.specs.Progress.{Underway, LineStep, going, stopped, outcomeStep, plainStep, stepDone, StepHeld}
 use Rattle.compiler.specs.declared.line.LineDone.{LineDone}

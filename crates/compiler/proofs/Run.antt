@@ -19,7 +19,7 @@ use Rattle.lines.proofs.Sums.{totals-in}
 use Rattle.tables.specs.Layout.{tableLength, directiveWord, flag, flat, headerOf, entriesOf, image, encode}
 use Rattle.tables.specs.Writing.{withHeader}
 use Rattle.tables.proofs.Written as written
-use Rattle.compiler.specs.Puts.{putHeader}
+use Rattle.compiler.specs.WholeLine.{putHeader}
 use Rattle.compiler.specs.Held.{soFar, held}
 use Rattle.compiler.specs.Progress.{Underway, LineStep, going, stopped, outcomeStep, plainStep, lineStep, stepDone, StepHeld}
 use Rattle.compiler.specs.Compile.{imageOf}

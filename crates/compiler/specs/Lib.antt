@@ -1,5 +1,4 @@
-pub mod Puts
-pub mod Reads
+pub mod WholeLine
 pub mod Held
 pub mod Progress
 pub mod Compile

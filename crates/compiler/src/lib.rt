@@ -1,7 +1,5 @@
-// The compiler: from text to a table in lent memory. Each side of a line is walked once: events and calls are
-// written as they are read, the production once the whole line is judged. A refusal clears the table.
-mod calls;
-mod events;
+// The compiler: from text to a table in lent memory, line by line. The events and calls of a line are written as they
+// are read, its production once the whole line is judged. A refusal clears the table.
 mod line;
 mod text;
 

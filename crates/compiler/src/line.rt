@@ -1,7 +1,7 @@
 // One line of a text: its events and calls are written as they are read, and its production once the whole line is judged.
-use crate::calls::write_right;
-use crate::events::LeftWritten;
-use crate::events::write_left;
+use line_writer::calls::write_right;
+use line_writer::events::LeftWritten;
+use line_writer::events::write_left;
 use lines::left::LeftJudged;
 use lines::line::LineJudged;
 use lines::line::judge_right;
@@ -23,7 +23,7 @@ ghost use Rattle.model.specs.Lines.{lineEnd, lineAt, directiveAt};
 ghost use Rattle.lookup.specs.Find.{directiveGiven};
 ghost use Rattle.lines.specs.Totals.{totalsOf, TotalsIn};
 ghost use Rattle.lines.specs.Line.{callsStart, judgedOf};
-ghost use Rattle.compiler.specs.Reads.{AddedPut};
+ghost use Rattle.compiler.specs.WholeLine.{AddedPut};
 ghost use Rattle.compiler.specs.Progress.{Underway, plainStep, lineStep, stepDone, StepHeld};
 ghost use Rattle.tables.specs.Layout.{tableLength};
 

@@ -17,7 +17,7 @@ ghost use Rattle.model.specs.Compiling.{linesOf, outcomeAnswer};
 ghost use Rattle.model.specs.declared.answers.Compiled.{Compiled};
 ghost use Rattle.lines.specs.Totals.{TotalsIn};
 ghost use Rattle.tables.specs.Layout.{tableLength};
-ghost use Rattle.compiler.specs.Puts.{putHeader};
+ghost use Rattle.compiler.specs.WholeLine.{putHeader};
 ghost use Rattle.compiler.specs.Compile.{imageOf};
 
 // A refusal leaves the empty table.

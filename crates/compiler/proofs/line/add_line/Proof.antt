@@ -4,7 +4,7 @@ use mathlib.Core.Path.{refl, sym, ap, _∙_, subst}
 use Rattle.lines.specs.declared.totals.Totals.{Totals}
 use Rattle.compiler.specs.declared.line.LineDone.{LineDone}
 use Rattle.compiler.specs.Progress.{Underway}
-use Rattle.compiler.specs.Reads.{AddedPut}
+use Rattle.compiler.specs.WholeLine.{AddedPut}
 use Rattle.compiler.proofs.LineSteps.{plain-blank, plain-refused, plain-added, stepped, underway-length, underway-in, outcome-refused, Adds, outcome-added, added-fits, added-totals, added-in, added-held}
 use Rattle.compiler.proofs.line.add_line.Statement.{statement}
 use Rattle.compiler.proofs.line.add_line.Tie as tie

@@ -6,8 +6,8 @@ use Rattle.event_scanner.proofs.LeftSide.{LeftIn, left-in}
 use Rattle.lines.specs.declared.left.LeftJudged.{LeftJudged}
 use Rattle.lines.specs.Line.{rightVerdict}
 use Rattle.lines.proofs.Verdict.{no-left, with-left, without-left}
-use Rattle.compiler.specs.Reads.{LeftDone}
-use Rattle.compiler.specs.declared.events.LeftWritten.{LeftWritten}
+use Rattle.line_writer.specs.Reads.{LeftDone}
+use Rattle.line_writer.specs.declared.events.LeftWritten.{LeftWritten}
 use Rattle.compiler.proofs.LineSteps.{none-put, sides-put}
 use Rattle.compiler.proofs.line.judge_line.Statement.{statement}
 use Rattle.compiler.proofs.line.judge_line.Tie as tie

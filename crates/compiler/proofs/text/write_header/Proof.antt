@@ -3,7 +3,7 @@ use Prim.Native.Nat.{ℕ}
 use mathlib.Core.Path.{ap, _∙_}
 use mathlib.Core.List.{List}
 use Rattle.tables.specs.Writing.{putCounts}
-use Rattle.compiler.specs.Puts.{putHeader}
+use Rattle.compiler.specs.WholeLine.{putHeader}
 use Rattle.compiler.proofs.text.write_header.Statement.{statement}
 use Rattle.compiler.proofs.text.write_header.Tie as tie
 

@@ -1,0 +1,4 @@
+pub mod AllKept
+pub mod EventHere
+pub mod EventWalk
+pub mod CallWalk
