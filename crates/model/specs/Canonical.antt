@@ -144,6 +144,7 @@ unfoldable pub firstInOrder : (least : List ℕ) → List (List ℕ) → List �
 firstInOrder least [] = least
 firstInOrder least (n ∷ ns) = firstInOrder (cond (isBefore n least) n least) ns
 
+-- the first of them in byte order, `other` where there are none
 abbrev pub firstNameOr : (other : List ℕ) → List (List ℕ) → List ℕ
 firstNameOr other [] = other
 firstNameOr other (n ∷ ns) = firstInOrder n ns
