@@ -1,8 +1,9 @@
--- R-3: "It is shown once over the whole table that each group holds exactly the names of its length and first byte." The tests go
--- over every line and column of an index; that every name has a line and a column gives all other lengths and bytes. Assumes nothing.
+-- R-3: "It is shown once over the whole table that each group holds exactly the names of its length and first byte." One test goes
+-- over every line and column of both indexes; that every name has a line and a column gives all other lengths and bytes. Assumes
+-- nothing.
 use Prim.Native.Nat.{ℕ, _+_, _-_, _≤_}
 use native.Mathlib.Omega.{arith}
-use mathlib.Core.Path.{_≡_, refl, sym, subst, _∙_}
+use mathlib.Core.Path.{_≡_, refl, sym, ap, subst, _∙_}
 use mathlib.Core.Bool.{Bool, true, false, false≢true, _&&_}
 use mathlib.Core.List.{List, [], _∷_, map}
 use lib.Dec.{eqb, leb}
@@ -28,7 +29,7 @@ use Rattle.names.proofs.Order.{modifiersInOrder, typesInOrder, namesInOrder, mo
 use Rattle.lookup.specs.Find.{modifierMeaning, typeMeaning}
 use Rattle.lookup.specs.Rule.{HoldsGroup, Grouped}
 
--- ---- From tests over the lines and columns to every length and byte
+-- ---- From a test over the lines and columns to every length and byte
 
 module _ {A : Type 0} where
   -- two functions that agree on the first bytes agree on each of them
@@ -83,7 +84,17 @@ no-line (f ∷ fs) [] other b h = refl
 no-line (f ∷ fs) (l ∷ ls) other b h =
     rw (or-no-left (eqb b f) (any (eqb b) fs) h) (no-line fs ls other b (or-no-right (eqb b f) (any (eqb b) fs) h))
 
--- ---- The tests, over an index and what stands at the places
+-- ---- The test of a kind, over an index and what stands at the places
+
+-- what it computes
+record Tested (A : Type 0) : Type 0 where
+  -- every name has a line and a column
+  covered : Bool
+  -- the groups of all lines and columns have places of the kind
+  within : Bool
+  -- the names that stand there, and their meanings
+  names : List (List (List (List ℕ)))
+  meanings : List (List (List A))
 
 module _ {A : Type 0} (firsts : List ℕ) (shortest longest : ℕ) (start : ℕ) (es : List (Entry A)) where
   -- what an index and a function of places give for a length and a byte
@@ -95,11 +106,15 @@ module _ {A : Type 0} (firsts : List ℕ) (shortest longest : ℕ) (start : ℕ)
     stands f lines len b =
         run f (start + groupBy lines len b .from) (groupBy lines len b .to - groupBy lines len b .from)
 
-    -- at every line and column stands what should
+    -- what stands at every line and column, and what should
+    abbrev standsAt : (ℕ → B) → List (List ℕ) → List (List (List B))
+    standsAt f lines = map (λ b. run (λ len. stands f lines len b) shortest (longest + 1 - shortest)) firsts
+
+    abbrev shouldStand : (List (Entry A) → List B) → List (List (List B))
+    shouldStand should = map (λ b. run (λ len. should (groupOf es len b)) shortest (longest + 1 - shortest)) firsts
+
     abbrev Exact : (ℕ → B) → List (List ℕ) → (List (Entry A) → List B) → Type 0
-    Exact f lines should =
-        map (λ b. run (λ len. stands f lines len b) shortest (longest + 1 - shortest)) firsts
-        ≡ map (λ b. run (λ len. should (groupOf es len b)) shortest (longest + 1 - shortest)) firsts
+    Exact f lines should = standsAt f lines ≡ shouldStand should
 
     exact-at : (f : ℕ → B) (lines : List (List ℕ)) (should : List (Entry A) → List B) → Exact f lines should
         → (len b : ℕ) → hasGroup firsts shortest longest len b ≡ true → stands f lines len b ≡ should (groupOf es len b)
@@ -111,10 +126,12 @@ module _ {A : Type 0} (firsts : List ℕ) (shortest longest : ℕ) (start : ℕ)
         (at-first _ _ firsts e b (and-right (inRange shortest len longest) _ h)) (len - shortest) (omega arith))
 
   -- at every line and column are places of the kind
-  abbrev Within : List (List ℕ) → ℕ → Type 0
-  Within lines total =
+  abbrev isWithin : List (List ℕ) → ℕ → Bool
+  isWithin lines total =
       all (λ b. every (λ len. leb (groupBy lines len b .from) (groupBy lines len b .to) && leb (groupBy lines len b .to) total) shortest (longest + 1 - shortest)) firsts
-      ≡ true
+
+  abbrev Within : List (List ℕ) → ℕ → Type 0
+  Within lines total = isWithin lines total ≡ true
 
   within-at : (lines : List (List ℕ)) (total : ℕ) → Within lines total → (len b : ℕ) → hasGroup firsts shortest longest len b ≡ true
       → (groupBy lines len b .from ≤ groupBy lines len b .to) × (groupBy lines len b .to ≤ total)
@@ -138,100 +155,89 @@ module _ {A : Type 0} (firsts : List ℕ) (shortest longest : ℕ) (start : ℕ)
       go true q =
           rw (q, no-line firsts lines (zeros (lineLength shortest longest)) b (sym (rw q) ∙ h), getD-zeros, getD-zeros)
 
-  -- the tests say so of every length and byte
-  grouped : (mean : ℕ → A) (lines : List (List ℕ)) (total : ℕ) → all (nameHasGroup firsts shortest longest) es ≡ true
-      → Within lines total → Exact nameRow lines namesIn → Exact mean lines meaningsIn
+  abbrev tested : (name : ℕ → List ℕ) (mean : ℕ → A) → List (List ℕ) → ℕ → Tested A
+  tested name mean lines total =
+      record {
+        covered = all (nameHasGroup firsts shortest longest) es;
+        within = isWithin lines total;
+        names = standsAt name lines;
+        meanings = standsAt mean lines;
+      }
+
+  -- what it must come to
+  abbrev exact : Tested A
+  exact = record { covered = true; within = true; names = shouldStand namesIn; meanings = shouldStand meaningsIn }
+
+  -- then every length and byte has its group
+  grouped : (mean : ℕ → A) (lines : List (List ℕ)) (total : ℕ) → tested nameRow mean lines total ≡ exact
       → (len b : ℕ) → HoldsGroup mean start total (groupBy lines len b) (groupOf es len b)
   unfolding run
-  grouped mean lines total cover within names meanings len b = go (hasGroup firsts shortest longest len b) refl
+  grouped mean lines total e len b = go (hasGroup firsts shortest longest len b) refl
     where
       go : (t : Bool) → hasGroup firsts shortest longest len b ≡ t → HoldsGroup mean start total (groupBy lines len b) (groupOf es len b)
       go true h =
-          let w = within-at lines total within len b h in
+          let w = within-at lines total (ap (λ (t : Tested A). t .within) e) len b h in
           record {
             rising = w .0;
             within = w .1;
-            holds = record { names = exact-at nameRow lines namesIn names len b h; meanings = exact-at mean lines meaningsIn meanings len b h };
+            holds =
+                record {
+                  names = exact-at nameRow lines namesIn (ap (λ (t : Tested A). t .names) e) len b h;
+                  meanings = exact-at mean lines meaningsIn (ap (λ (t : Tested A). t .meanings) e) len b h;
+                };
           }
       go false h =
-          rw (no-place lines len b h, no-name firsts shortest longest es cover len b h)
+          rw (no-place lines len b h, no-name firsts shortest longest es (ap (λ (t : Tested A). t .covered) e) len b h)
           (record { rising = omega arith; within = omega arith; holds = record { names = refl; meanings = refl } })
 
--- ---- Modifiers
+-- ---- The one test, over the whole table
 
-modifiers-covered : all (nameHasGroup modifierFirsts shortestModifier longestModifier) modifierEntries ≡ true
-unfolding modifierEntries
-modifiers-covered = refl
+-- what stands at a place of these names, modifiers and types
+abbrev nameIn : List (List ℕ) → ℕ → List ℕ
+nameIn names k = getD names k []
 
-abbrev modifiersWithin : List (List ℕ) → Type 0
-modifiersWithin lines = Within modifierFirsts shortestModifier longestModifier modifierNamesAt modifierEntries lines modifierTotal
+abbrev modifierIn : List (Entry ModifierName) → ℕ → ModifierName
+modifierIn table k = modifierOf (getD (map bitNumber (meaningsIn table)) (k - modifierNamesAt) 0)
 
-modifiers-within : modifiersWithin modifierLines
-unfolding every
-modifiers-within = refl
+abbrev typeIn : List (Entry TypeName) → ℕ → TypeName
+typeIn table k = TypeName.Known (typeOf (numbersOf (getD (meaningsIn table) (k - typesAt) TypeName.Unknown)))
 
--- the names at the places of the index
-abbrev modifiersNamed : List (List ℕ) → List (List ℕ) → Type 0
-modifiersNamed lines names =
-    Exact modifierFirsts shortestModifier longestModifier modifierNamesAt modifierEntries (λ k. getD names k []) lines namesIn
+abbrev modifiersTested : (lines names : List (List ℕ)) → List (Entry ModifierName) → Tested ModifierName
+modifiersTested lines names table =
+    tested modifierFirsts shortestModifier longestModifier modifierNamesAt modifierEntries (nameIn names) (modifierIn table) lines modifierTotal
 
-modifiers-named : modifiersNamed modifierLines namesInOrder
-unfolding run otherNames modifiersInOrder directiveEntries modifierEntries keysymEntries buttonEntries motionEntries modeEntries requestEntries
-modifiers-named = refl
+abbrev modifiersExact : Tested ModifierName
+modifiersExact = exact modifierFirsts shortestModifier longestModifier modifierNamesAt modifierEntries
 
--- what these stand for
-abbrev modifiersMeant : List (List ℕ) → List (Entry ModifierName) → Type 0
-modifiersMeant lines table =
-    Exact modifierFirsts shortestModifier longestModifier modifierNamesAt modifierEntries
-    (λ k. modifierOf (getD (map bitNumber (meaningsIn table)) (k - modifierNamesAt) 0)) lines meaningsIn
+abbrev typesTested : (lines names : List (List ℕ)) → List (Entry TypeName) → Tested TypeName
+typesTested lines names table =
+    tested typeFirsts shortestType longestType typesAt typeEntries (nameIn names) (typeIn table) lines typeTotal
 
-modifiers-meant : modifiersMeant modifierLines modifiersInOrder
-unfolding run modifiersInOrder modifierEntries
-modifiers-meant = refl
+abbrev typesExact : Tested TypeName
+typesExact = exact typeFirsts shortestType longestType typesAt typeEntries
+
+table-test : _≡_ {A = Tested ModifierName × Tested TypeName}
+    (modifiersTested modifierLines namesInOrder modifiersInOrder, typesTested typeLines namesInOrder typesInOrder)
+    (modifiersExact, typesExact)
+unfolding run every otherNames modifiersInOrder typesInOrder directiveEntries modifierEntries typeEntries protocolEntries synonymEntries abbreviationEntries keysymEntries buttonEntries motionEntries modeEntries requestEntries
+table-test = refl
+
+-- ---- What follows for each kind, of the table by its definition
 
 pub modifiers-grouped : Grouped modifierMeaning modifierNamesAt modifierTotal modifierGroup modifierEntries
 unfolding nameRow modifierLine modifierGroup modifierBits modifierRow
 modifiers-grouped =
     grouped modifierFirsts shortestModifier longestModifier modifierNamesAt modifierEntries modifierMeaning modifierIndex modifierTotal
-    modifiers-covered
-    (subst modifiersWithin (sym modifier-lines) modifiers-within)
-    (subst (λ lines. modifiersNamed lines allNames) (sym modifier-lines) (subst (modifiersNamed modifierLines) (sym name-order) modifiers-named))
-    (subst (λ lines. modifiersMeant lines modifierTable) (sym modifier-lines) (subst (modifiersMeant modifierLines) (sym modifier-order) modifiers-meant))
-
--- ---- Event types
-
-types-covered : all (nameHasGroup typeFirsts shortestType longestType) typeEntries ≡ true
-unfolding typeEntries protocolEntries synonymEntries abbreviationEntries
-types-covered = refl
-
-abbrev typesWithin : List (List ℕ) → Type 0
-typesWithin lines = Within typeFirsts shortestType longestType typesAt typeEntries lines typeTotal
-
-types-within : typesWithin typeLines
-unfolding every
-types-within = refl
-
-abbrev typesNamed : List (List ℕ) → List (List ℕ) → Type 0
-typesNamed lines names = Exact typeFirsts shortestType longestType typesAt typeEntries (λ k. getD names k []) lines namesIn
-
-types-named : typesNamed typeLines namesInOrder
-unfolding run otherNames modifiersInOrder typesInOrder directiveEntries modifierEntries typeEntries protocolEntries synonymEntries abbreviationEntries keysymEntries buttonEntries motionEntries modeEntries requestEntries
-types-named = refl
-
-abbrev typesMeant : List (List ℕ) → List (Entry TypeName) → Type 0
-typesMeant lines table =
-    Exact typeFirsts shortestType longestType typesAt typeEntries
-    (λ k. TypeName.Known (typeOf (numbersOf (getD (meaningsIn table) (k - typesAt) TypeName.Unknown)))) lines meaningsIn
-
-types-meant : typesMeant typeLines typesInOrder
-unfolding run typesInOrder typeEntries protocolEntries synonymEntries abbreviationEntries
-types-meant = refl
+    (subst (λ lines. modifiersTested lines allNames modifierTable ≡ modifiersExact) (sym modifier-lines)
+    (subst (λ names. modifiersTested modifierLines names modifierTable ≡ modifiersExact) (sym name-order)
+    (subst (λ table. modifiersTested modifierLines namesInOrder table ≡ modifiersExact) (sym modifier-order)
+    (ap (λ (t : Tested ModifierName × Tested TypeName). t .0) table-test))))
 
 pub types-grouped : Grouped typeMeaning typesAt typeTotal typeGroup typeEntries
 unfolding nameRow typeLine typeGroup typeNumbers typeRow
 types-grouped =
     grouped typeFirsts shortestType longestType typesAt typeEntries typeMeaning typeIndex typeTotal
-    types-covered
-    (subst typesWithin (sym type-lines) types-within)
-    (subst (λ lines. typesNamed lines allNames) (sym type-lines) (subst (typesNamed typeLines) (sym name-order) types-named))
-    (subst (λ lines. typesMeant lines typeTable) (sym type-lines) (subst (typesMeant typeLines) (sym type-order) types-meant))
+    (subst (λ lines. typesTested lines allNames typeTable ≡ typesExact) (sym type-lines)
+    (subst (λ names. typesTested typeLines names typeTable ≡ typesExact) (sym name-order)
+    (subst (λ table. typesTested typeLines namesInOrder table ≡ typesExact) (sym type-order)
+    (ap (λ (t : Tested ModifierName × Tested TypeName). t .1) table-test))))
