@@ -113,10 +113,7 @@ module _ {A : Type 0} (firsts : List ℕ) (shortest longest : ℕ) (start : ℕ)
     abbrev shouldStand : (List (Entry A) → List B) → List (List (List B))
     shouldStand should = map (λ b. run (λ len. should (groupOf es len b)) shortest (longest + 1 - shortest)) firsts
 
-    abbrev Exact : (ℕ → B) → List (List ℕ) → (List (Entry A) → List B) → Type 0
-    Exact f lines should = standsAt f lines ≡ shouldStand should
-
-    exact-at : (f : ℕ → B) (lines : List (List ℕ)) (should : List (Entry A) → List B) → Exact f lines should
+    exact-at : (f : ℕ → B) (lines : List (List ℕ)) (should : List (Entry A) → List B) → standsAt f lines ≡ shouldStand should
         → (len b : ℕ) → hasGroup firsts shortest longest len b ≡ true → stands f lines len b ≡ should (groupOf es len b)
     exact-at f lines should e len b h =
         let low = leb-true shortest len (and-left _ _ (and-left _ _ h)) in
@@ -130,10 +127,7 @@ module _ {A : Type 0} (firsts : List ℕ) (shortest longest : ℕ) (start : ℕ)
   isWithin lines total =
       all (λ b. every (λ len. leb (groupBy lines len b .from) (groupBy lines len b .to) && leb (groupBy lines len b .to) total) shortest (longest + 1 - shortest)) firsts
 
-  abbrev Within : List (List ℕ) → ℕ → Type 0
-  Within lines total = isWithin lines total ≡ true
-
-  within-at : (lines : List (List ℕ)) (total : ℕ) → Within lines total → (len b : ℕ) → hasGroup firsts shortest longest len b ≡ true
+  within-at : (lines : List (List ℕ)) (total : ℕ) → isWithin lines total ≡ true → (len b : ℕ) → hasGroup firsts shortest longest len b ≡ true
       → (groupBy lines len b .from ≤ groupBy lines len b .to) × (groupBy lines len b .to ≤ total)
   within-at lines total e len b h =
       let low = leb-true shortest len (and-left _ _ (and-left _ _ h)) in
