@@ -27,7 +27,7 @@ extern "C" {
 
 /* A table, whatever it holds. A lent buffer may be longer: bytes past the
  * table are neither read nor written. */
-#define TT_TABLE_LENGTH 10006
+#define TT_TABLE_LENGTH 10000
 
 /* A matcher's state. Bytes past it are neither read nor written. */
 #define TT_STATE_LENGTH 200
@@ -79,9 +79,8 @@ enum tt_number {
     /* A limit on productions, events, calls or parameters is passed, or an
      * event names over four keysyms after `@`. */
     TT_PAST_LIMIT = 11,
-    /* The table's bytes are no table: among others where its set of event
-     * types is not just the one that its productions name. Or a lent text is
-     * shorter than the table says. */
+    /* The table's bytes are no table, or a lent text is shorter than the
+     * table says. */
     TT_TABLE_NOT_WHOLE = 12,
     /* An event record that is not 32 bytes, a code outside 2..34, a key
      * event's keycode below 8, or a byte order other than 'l' and 'B'. */
@@ -106,13 +105,9 @@ enum tt_number {
 #define TT_NUMBER(answer) ((unsigned)((answer) & 0xff))
 
 /* The place of tt_compile, the length of tt_write, the count of
- * tt_productions, tt_calls and tt_parameters, the set of tt_types as a mask;
- * of tt_match 0 where no production is selected, else the production's
- * number + 1. */
+ * tt_productions, tt_calls and tt_parameters; of tt_match 0 where no
+ * production is selected, else the production's number + 1. */
 #define TT_VALUE(answer) ((uint64_t)(answer) >> 8)
-
-/* Of tt_types: whether the set has the event type of this code, 2..34. */
-#define TT_HAS_TYPE(answer, code) ((int)(TT_VALUE(answer) >> (code) & 1))
 
 /* Of tt_name and tt_parameter: 0 where the part stands in the first text and
  * 1 where it stands in the second, the byte at which it starts, and its
@@ -164,15 +159,6 @@ uint64_t tt_write(const uint8_t *table, size_t table_length,
 
 /* ---- What a table has; productions, calls and parameters count from 0 */
 
-/*
- * Which event types a table names: the number, and 256 times a mask with bit
- * c set for each event code c, 0 after a refusal. Refused with 1, 12.
- * A counted press or release names both types: `<Btn1Down>(2)` has 4 and 5.
- * An event of any other type is dropped by tt_match, so these are the ones to
- * select from the server: a toolkit computes a window's event mask from them.
- */
-uint64_t tt_types(const uint8_t *table, size_t table_length);
-
 /* How many productions a table has: the number, and 256 times the count, 0
  * after a refusal. Refused with 1, 12. */
 uint64_t tt_productions(const uint8_t *table, size_t table_length);
@@ -217,8 +203,8 @@ uint64_t tt_fresh(uint8_t *state, size_t state_length);
  * Alt, Hyper, Super and `@` with a keysym stand for the modifiers in whose
  * rows a key has such a keysym, so the same table serves any keyboard.
  * Refused with 1, 18, 12, 14, 13, 15, in this order. After a refusal, and after
- * an event whose type is not in the set of tt_types, the state is unchanged;
- * after any other call it is the state for the next event.
+ * an event whose type no production has, the state is unchanged; after any
+ * other call it is the state for the next event.
  * A motion event directly after another takes its place, so that one motion
  * in a line matches any number of them, with a selection after each; a line
  * with two motions side by side is never selected.

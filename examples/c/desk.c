@@ -6,16 +6,8 @@
 #include <stdio.h>
 #include <string.h>
 
-enum { KEY_PRESS = 2, KEY_RELEASE, BUTTON_PRESS, BUTTON_RELEASE, MOTION, ENTER, LEAVE, FOCUS_IN, FOCUS_OUT };
-enum { MULTI_CLICK_TIME = 200 };
+enum { KEY_PRESS = 2, BUTTON_PRESS = 4, BUTTON_RELEASE = 5, MOTION = 6, MULTI_CLICK_TIME = 200 };
 enum { RETURN = 36, META = 64, MOD1 = 3, BUTTON1 = 8 }; /* two keycodes; Mod1's bit and row, Button1's bit */
-
-/* The event masks of the protocol, each with the code of the events that it selects. */
-static const struct { int code; uint32_t mask; } selecting[] = {
-    { KEY_PRESS, 1 << 0 },      { KEY_RELEASE, 1 << 1 }, { BUTTON_PRESS, 1 << 2 },
-    { BUTTON_RELEASE, 1 << 3 }, { ENTER, 1 << 4 },       { LEAVE, 1 << 5 },
-    { MOTION, 1 << 6 },         { FOCUS_IN, 1 << 21 },   { FOCUS_OUT, 1 << 21 },
-};
 
 static const char text[] =
     "<Btn1Down>(2): grant(space, \"10 GB\")\n"
@@ -101,16 +93,6 @@ static void hear(uint8_t code, uint8_t detail, uint16_t modifiers, uint32_t time
     }
 }
 
-/* The events to ask the server for: those of the types that the table names. */
-static uint32_t event_mask(uint64_t types)
-{
-    uint32_t mask = 0;
-    for (size_t i = 0; i < sizeof selecting / sizeof selecting[0]; i++)
-        if (TT_HAS_TYPE(types, selecting[i].code))
-            mask |= selecting[i].mask;
-    return mask;
-}
-
 int main(void)
 {
     uint64_t answer = tt_compile(text_bytes(), text_length(), table, sizeof table);
@@ -118,7 +100,6 @@ int main(void)
         printf("refused with %u at byte %u\n", TT_NUMBER(answer), (unsigned)TT_VALUE(answer));
         return 1;
     }
-    printf("selects 0x%lx\n", (unsigned long)event_mask(tt_types(table, sizeof table)));
     put_maps();
     tt_fresh(state, sizeof state);
     hear(BUTTON_PRESS, 1, 0, 1000);

@@ -8,11 +8,10 @@ use crate::limits;
 use crate::merging::merge;
 use crate::numbers::Number;
 use crate::random::Random;
-use crate::records::{read_record, Event};
+use crate::records::Event;
 use crate::selection::{tested_bits, Matcher, Step};
 use crate::statistics::Statistics;
 use crate::table::{Directive, Table};
-use crate::types::TypeSet;
 use crate::writing::write;
 use std::fmt;
 use std::ops::Range;
@@ -71,9 +70,6 @@ fn check_case(case: &Case, random: &mut Random, statistics: &mut Statistics) -> 
             if let (Ok(old_table), Ok(new_table)) = tables {
                 let merged = merge(&old_table, &new_table);
                 check_result(&merged, &[&old.bytes, &new.bytes], expected, statistics)?;
-                if let Ok(merged) = &merged {
-                    check_merged_types([&old_table, &new_table], merged)?;
-                }
                 statistics.count_merge(number_of(&merged), *aim);
             }
         }
@@ -153,20 +149,6 @@ fn check_written(table: &Table, texts: &Texts, statistics: &mut Statistics) -> C
     })
 }
 
-/// Replacing leaves the new table's types. Overriding and augmenting leave both tables': a
-/// production that is left out has the events, and so the types, of one that stays.
-fn check_merged_types(tables: [&Table; 2], merged: &Table) -> Checked<()> {
-    let [old, new] = tables.map(TypeSet::named_by);
-    let mask = match tables[1].directive {
-        Directive::Replace => new.mask,
-        Directive::Override | Directive::Augment => old.mask | new.mask,
-    };
-    let found = TypeSet::named_by(merged);
-    ensure(found == TypeSet { mask }, || {
-        format!("merged types {found:?} of {old:?} and {new:?}")
-    })
-}
-
 fn shown(texts: &Texts) -> String {
     let [first, second] = texts.map(String::from_utf8_lossy);
     format!("{first:?} {second:?}")
@@ -241,7 +223,6 @@ fn check_list(
     let outcomes = Outcomes::of(table, list, &list.calls);
     check_contexts(&outcomes)?;
     check_selections(&outcomes)?;
-    check_dropped(table, list, &outcomes)?;
     check_untested_bits(table, list, random, &outcomes)?;
     check_moved_times(table, list, random, &outcomes)?;
     statistics.count_outcomes(table, &outcomes);
@@ -273,20 +254,6 @@ fn check_selections(outcomes: &Outcomes) -> Checked<()> {
             let disjoint = || first.iter().all(|event| !second.contains(event));
             ensure(first[0] == second[0] || disjoint(), || {
                 format!("selections on {first:?} and {second:?}")
-            })?;
-        }
-    }
-    Ok(())
-}
-
-/// "A read event is dropped exactly when its type isn't in the set."
-fn check_dropped(table: &Table, list: &EventList, outcomes: &Outcomes) -> Checked<()> {
-    let types = TypeSet::named_by(table);
-    for (call, outcome) in list.calls.iter().zip(&outcomes.calls) {
-        let read = read_record(&call.record, call.order);
-        if let (Ok(event), Number::Accepted) = (read, outcome.number) {
-            ensure(types.contains(event.code) == outcome.step.is_some(), || {
-                format!("{event:?}, with the types {types:?}: {:?}", outcome.step)
             })?;
         }
     }

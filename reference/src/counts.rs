@@ -65,7 +65,7 @@ pub fn expanded_length(spec: &EventSpec) -> usize {
 }
 
 /// The types of an event's expansion. With a count, press and release alternate from a press on.
-pub fn codes(spec: &EventSpec) -> impl Iterator<Item = u8> {
+fn codes(spec: &EventSpec) -> impl Iterator<Item = u8> {
     let code = spec.code;
     let (press, release) = match (spec.count, code) {
         (1, _) => (code, code),

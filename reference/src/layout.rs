@@ -10,9 +10,8 @@ use crate::names::{self, Name, RELATIVES};
 use crate::records::Event;
 use crate::resolving::Maps;
 use crate::table::{Call, Directive, EventSpec, Production, Span, Table};
-use crate::types::TypeSet;
 
-pub const TABLE_BYTES: usize = 10_006;
+pub const TABLE_BYTES: usize = 10_000;
 pub const STATE_BYTES: usize = 200;
 const TABLE_WORDS: usize = TABLE_BYTES / 2;
 
@@ -54,8 +53,6 @@ pub mod sections {
     pub const CALL_PARAMETERS: Section = section(4360, 128);
     pub const PARAMETER_START: Section = section(4488, 256);
     pub const PARAMETER_LENGTH: Section = section(4744, 256);
-    /// The set of event types, its lowest 16 bits first.
-    pub const TYPES: Section = section(5000, 3);
 
     pub const OF_PRODUCTIONS: [Section; 2] = [PRODUCTION_EVENTS, PRODUCTION_CALLS];
     pub const OF_EVENTS: [Section; 7] = [CODE, COUNT, SET, CLEAR, FLAGS, DETAIL_LOW, DETAIL_HIGH];
@@ -161,15 +158,7 @@ pub fn encode(table: &Table) -> Vec<u8> {
             parameter += 1;
         }
     }
-    let mut bytes: Vec<u8> = words.0.iter().flat_map(|word| word.to_le_bytes()).collect();
-    put_types(&mut bytes, TypeSet::named_by(table));
-    bytes
-}
-
-/// Puts a set into a table's bytes, whether or not it is the one that the table names.
-pub fn put_types(bytes: &mut [u8], types: TypeSet) {
-    let (from, length) = (2 * TYPES.first, 2 * TYPES.words);
-    bytes[from..from + length].copy_from_slice(&types.mask.to_le_bytes()[..length]);
+    words.0.iter().flat_map(|word| word.to_le_bytes()).collect()
 }
 
 fn put_event(words: &mut Written, at: usize, spec: &EventSpec) {
@@ -215,18 +204,13 @@ impl Written {
 
 /// Whether bytes are a whole table. It reads them where they stand and needs no memory of its own.
 pub fn is_whole(bytes: &[u8]) -> bool {
-    Reader::new(bytes).is_some_and(|reader| reader.check().is_some())
-}
-
-/// The types that the events of a table's bytes name, if all but the set that they keep is whole.
-pub fn named_types(bytes: &[u8]) -> Option<TypeSet> {
-    Reader::new(bytes)?.named_types()
+    Reader::new(bytes).is_some_and(|reader| reader.entries_are_whole().is_some())
 }
 
 /// The table that bytes are, if they are whole. Bytes past a table are not read.
 pub fn decode(bytes: &[u8]) -> Option<Table> {
     let reader = Reader::new(bytes)?;
-    reader.check()?;
+    reader.entries_are_whole()?;
     Some(Table {
         directive: reader.directive,
         merged: reader.merged,
@@ -311,22 +295,9 @@ impl Reader<'_> {
         })
     }
 
-    /// Whether the entries are whole, and the set is the one that they name: "12 also where it
-    /// differs".
-    fn check(&self) -> Option<()> {
-        require(self.named_types()? == self.kept_types())
-    }
-
-    fn kept_types(&self) -> TypeSet {
-        let words = (0..TYPES.words).map(|at| self.words.get(TYPES, at) as u64);
-        let mask = words.rev().fold(0, |above, word| above << 16 | word);
-        TypeSet { mask }
-    }
-
-    /// The types that the events name, if every entry is in range and within the limits, and the
-    /// counts add up to the header's.
-    fn named_types(&self) -> Option<TypeSet> {
-        let mut types = TypeSet::default();
+    /// Whether every entry is in range and within the limits, and the counts add up to the
+    /// header's.
+    fn entries_are_whole(&self) -> Option<()> {
         let (mut event, mut call, mut parameter, mut expanded) = (0, 0, 0, 0);
         for at in 0..self.used.productions {
             let events = self.words.get(PRODUCTION_EVENTS, at);
@@ -335,9 +306,7 @@ impl Reader<'_> {
             require(calls <= limits::CALLS_IN_PRODUCTION && call + calls <= self.used.calls)?;
             let mut length = 0;
             for at in event..event + events {
-                let spec = self.event_without_names(at)?;
-                length += counts::expanded_length(&spec);
-                counts::codes(&spec).for_each(|code| types.insert(code));
+                length += counts::expanded_length(&self.event_without_names(at)?);
                 self.slots(at)?;
             }
             require(length <= limits::EVENTS_IN_PRODUCTION)?;
@@ -353,8 +322,7 @@ impl Reader<'_> {
             event == self.used.events
                 && call == self.used.calls
                 && parameter == self.used.parameters,
-        )?;
-        Some(types)
+        )
     }
 
     /// "A production's events, a production's calls and a call's parameters follow each other

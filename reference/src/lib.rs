@@ -1,6 +1,6 @@
 //! A second implementation of X translation tables, written from document 01 ("01" below),
-//! requests of document 02 ("02"), the readings of both and Appendix B
-//! ("001"), as plainly as they read.
+//! requests of document 02 ("02"), the readings of both and Appendix B ("001"), as
+//! plainly as they read.
 //!
 //! Each module holds one section, or one part of a section, of 01, or what a request adds.
 
@@ -21,7 +21,6 @@ pub mod resolving;
 pub mod selection;
 pub mod table;
 pub mod text;
-pub mod types;
 pub mod writing;
 
 pub mod checks;
@@ -39,5 +38,4 @@ pub use records::{read_record, Event};
 pub use resolving::Maps;
 pub use selection::{BoundedMatcher, Matcher};
 pub use table::{Call, Directive, EventSpec, Production, Span, Table};
-pub use types::TypeSet;
 pub use writing::write;

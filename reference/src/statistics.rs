@@ -9,7 +9,6 @@ use crate::numbers::Number;
 use crate::records::Event;
 use crate::resolving::Maps;
 use crate::table::Table;
-use crate::types::TypeSet;
 use std::collections::BTreeMap;
 use std::fmt;
 
@@ -30,8 +29,6 @@ pub struct Statistics {
     pub past_limit: [usize; Limit::ALL.len()],
     /// Events of accepted texts by code.
     pub codes: BTreeMap<u8, usize>,
-    /// Accepted texts that name a type only by a count's expansion.
-    pub types_by_expansion: usize,
     pub counted_events: usize,
     pub exact_events: usize,
     pub colon_events: usize,
@@ -129,14 +126,7 @@ impl Statistics {
         }
     }
 
-    /// Accepted calls that left the history as it was.
-    pub fn dropped(&self) -> usize {
-        self.calls[Number::Accepted.index()] - self.heard
-    }
-
     pub fn count_forms(&mut self, table: &Table) {
-        let written: TypeSet = table.events().map(|spec| spec.code).collect();
-        self.types_by_expansion += usize::from(TypeSet::named_by(table) != written);
         for spec in table.events() {
             *self.codes.entry(spec.code).or_default() += 1;
             self.counted_events += usize::from(spec.count > 1);
@@ -272,7 +262,6 @@ impl fmt::Display for Statistics {
         writeln!(out, "events            {events}")?;
         writeln!(out, "  of each code    {} or more", self.fewest_of_a_code())?;
         writeln!(out, "  counted         {}", self.counted_events)?;
-        writeln!(out, "  expanded types  {}", self.types_by_expansion)?;
         writeln!(out, "  all bits asked  {}", self.exact_events)?;
         writeln!(out, "  with colon      {}", self.colon_events)?;
         writeln!(out, "  with clause     {}", self.clause_events)?;
@@ -290,7 +279,7 @@ impl fmt::Display for Statistics {
         writeln!(out, "  on a merged     {}", self.merged_match_cases)?;
         writeln!(out, "  calls           {}", by_number(&self.calls))?;
         writeln!(out, "  heard           {}", self.heard)?;
-        writeln!(out, "  dropped         {}", self.dropped())?;
+        writeln!(out, "  dropped         {}", self.calls[0] - self.heard)?;
         writeln!(out, "  selections      {}", self.selections)?;
         writeln!(out, "  on several      {}", self.long_selections)?;
         writeln!(out, "  over a wrap     {}", self.selections_over_wrap)?;

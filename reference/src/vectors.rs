@@ -2,45 +2,35 @@
 
 use crate::calls::{self, CallContents, ProductionContents, Texts};
 use crate::compiling::compile;
-use crate::generate::events::{EventList, RecordCall};
 use crate::json::{self, Json};
 use crate::merging::merge;
 use crate::modifiers::ListedName;
 use crate::names::Name;
 use crate::numbers::{Number, Refusal};
-use crate::resolving::ROWS;
+use crate::resolving::{Maps, ROWS};
 use crate::selection::Matcher;
 use crate::table::{EventSpec, Production, Table};
-use crate::types::TypeSet;
 use crate::writing::write;
 
 /// A request that does not have the format.
 #[derive(Debug, PartialEq, Eq)]
 pub struct BadRequest;
 
-/// The rules here are those of 01 with applied; R-3 changes no answer. A request says
+/// The rules here are those of 01 with applied; R-3 changes no answer. A request says
 /// which of 02's it counts on; one that counts on fewer is answered by these rules too.
-const LEVEL: i64 = 5;
-
-/// The level from which on a table is answered with its set of types.
-const TYPES_FROM: i64 = 5;
+const LEVEL: i64 = 4;
 
 /// The answer line for a request line.
 pub fn answer(request: &str) -> Result<String, BadRequest> {
     let request = json::parse(request).ok_or(BadRequest)?;
     let level = request.get("level").map_or(Some(0), Json::integer);
-    let level = level.ok_or(BadRequest)?;
-    if level > LEVEL {
+    if level.ok_or(BadRequest)? > LEVEL {
         return Err(BadRequest);
     }
-    let table_answer = match level < TYPES_FROM {
-        true => table_answer,
-        false => table_answer_with_types,
-    };
     let answer = match text_of(&request, "op")? {
-        "compile" => answer_compile(&request, table_answer)?,
+        "compile" => answer_compile(&request)?,
         "merge" => answer_merge(&request, table_answer)?,
-        "write" => answer_compile(&request, written_answer)?,
+        "write" => answer_write(&request)?,
         "writemerge" => answer_merge(&request, written_answer)?,
         "match" => answer_match(&request)?,
         _ => return Err(BadRequest),
@@ -48,18 +38,23 @@ pub fn answer(request: &str) -> Result<String, BadRequest> {
     Ok(answer.to_string())
 }
 
-/// What is answered of an accepted table.
-type TableAnswer = fn(&Table, &Texts) -> Json;
-
-fn answer_compile(request: &Json, accepted: TableAnswer) -> Result<Json, BadRequest> {
+fn answer_compile(request: &Json) -> Result<Json, BadRequest> {
     let text = bytes_of(request, "text")?;
     Ok(match compile(&text) {
-        Ok(table) => accepted(&table, &[&text, b""]),
+        Ok(table) => table_answer(&table, &[&text, b""]),
         Err(refusal) => refused(refusal),
     })
 }
 
-fn answer_merge(request: &Json, accepted: TableAnswer) -> Result<Json, BadRequest> {
+fn answer_write(request: &Json) -> Result<Json, BadRequest> {
+    let text = bytes_of(request, "text")?;
+    Ok(match compile(&text) {
+        Ok(table) => written_answer(&table, &[&text, b""]),
+        Err(refusal) => refused(refusal),
+    })
+}
+
+fn answer_merge(request: &Json, accepted: fn(&Table, &Texts) -> Json) -> Result<Json, BadRequest> {
     let texts = [bytes_of(request, "old")?, bytes_of(request, "new")?];
     let mut tables = Vec::new();
     for (which, text) in texts.iter().enumerate() {
@@ -76,58 +71,42 @@ fn answer_merge(request: &Json, accepted: TableAnswer) -> Result<Json, BadReques
 
 fn answer_match(request: &Json) -> Result<Json, BadRequest> {
     let text = bytes_of(request, "text")?;
-    let event_list = event_list(request)?;
+    let map: Result<Vec<u32>, BadRequest> = list_of(request, "map")?.iter().map(card32).collect();
+    let map = map?;
+    // "Where it is left out, 16 zero bytes."
+    let modifiers = match request.get("modmap") {
+        Some(_) => bytes_of(request, "modmap")?,
+        None => vec![0; 2 * ROWS],
+    };
+    let maps = Maps {
+        keyboard: &map,
+        modifiers: &modifiers,
+    };
+    let time = card32(request.get("time").ok_or(BadRequest)?)?;
     let table = match compile(&text) {
         Ok(table) => table,
         Err(refusal) => return Ok(refused(refusal)),
     };
-    let mut matcher = Matcher::new(&table, event_list.maps(), event_list.multi_click_time);
-    let results = list(&event_list.calls, |call| {
-        let (number, selected) = matcher.call(&call.record, call.order);
+    let mut matcher = Matcher::new(&table, maps, time);
+    let mut results = Vec::new();
+    for call in list_of(request, "calls")? {
+        let record = bytes_of(call, "rec")?;
+        let order = call.get("order").and_then(Json::integer);
+        let order = u8::try_from(order.ok_or(BadRequest)?).map_err(|_| BadRequest)?;
+        let (number, selected) = matcher.call(&record, order);
         let selected = selected.map_or(Json::Integer(-1), integer);
-        Json::List(vec![integer(number.index()), selected])
-    });
-    Ok(numbered(Number::Accepted, &[("results", results)]))
-}
-
-/// The maps, the time and the calls of a match.
-pub fn event_list(request: &Json) -> Result<EventList, BadRequest> {
-    let map: Result<Vec<u32>, BadRequest> = list_of(request, "map")?.iter().map(card32).collect();
-    let calls = list_of(request, "calls")?.iter().map(record_call);
-    Ok(EventList {
-        map: map?,
-        // "Where it is left out, 16 zero bytes."
-        modifier_map: match request.get("modmap") {
-            Some(_) => bytes_of(request, "modmap")?,
-            None => vec![0; 2 * ROWS],
-        },
-        multi_click_time: card32(request.get("time").ok_or(BadRequest)?)?,
-        calls: calls.collect::<Result<Vec<RecordCall>, BadRequest>>()?,
-    })
-}
-
-fn record_call(call: &Json) -> Result<RecordCall, BadRequest> {
-    let order = call.get("order").and_then(Json::integer);
-    Ok(RecordCall {
-        record: bytes_of(call, "rec")?,
-        order: u8::try_from(order.ok_or(BadRequest)?).map_err(|_| BadRequest)?,
-    })
+        results.push(Json::List(vec![integer(number.index()), selected]));
+    }
+    Ok(numbered(
+        Number::Accepted,
+        &[("results", Json::List(results))],
+    ))
 }
 
 fn table_answer(table: &Table, texts: &Texts) -> Json {
-    accepted_table(table, texts, &[])
-}
-
-fn table_answer_with_types(table: &Table, texts: &Texts) -> Json {
-    let codes = TypeSet::named_by(table).codes();
-    let types = list(codes, |code| Json::Integer(code.into()));
-    accepted_table(table, texts, &[("types", types)])
-}
-
-fn accepted_table(table: &Table, texts: &Texts, further: &[(&str, Json)]) -> Json {
     let contents = calls::contents(table, texts).expect("the texts are the table's own");
     let productions = table.productions.iter().zip(&contents);
-    let fields = [
+    let table = object(&[
         ("directive", integer(table.directive as usize)),
         ("merged", Json::Bool(table.merged)),
         (
@@ -136,8 +115,7 @@ fn accepted_table(table: &Table, texts: &Texts, further: &[(&str, Json)]) -> Jso
                 production_json(production, contents)
             }),
         ),
-    ];
-    let table = object(&[&fields, further].concat());
+    ]);
     numbered(Number::Accepted, &[("table", table)])
 }
 
@@ -210,7 +188,7 @@ fn object(entries: &[(&str, Json)]) -> Json {
     Json::Object(entries.iter().map(entry).collect())
 }
 
-fn list<T>(items: impl IntoIterator<Item = T>, json: impl FnMut(T) -> Json) -> Json {
+fn list<T>(items: impl IntoIterator<Item = T>, json: impl Fn(T) -> Json) -> Json {
     Json::List(items.into_iter().map(json).collect())
 }
 
@@ -230,7 +208,7 @@ fn list_of<'j>(object: &'j Json, key: &str) -> Result<&'j [Json], BadRequest> {
     object.get(key).and_then(Json::list).ok_or(BadRequest)
 }
 
-pub fn bytes_of(object: &Json, key: &str) -> Result<Vec<u8>, BadRequest> {
+fn bytes_of(object: &Json, key: &str) -> Result<Vec<u8>, BadRequest> {
     let digits = text_of(object, key)?.as_bytes();
     if digits.len() % 2 != 0 {
         return Err(BadRequest);

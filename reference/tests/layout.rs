@@ -27,20 +27,17 @@ fn tables_read_back() {
     }
 }
 
-/// Each change of one word of a table's bytes, and whether they are whole after it; where types
-/// are given, with this set.
+/// Each change of one word of a table's bytes, and whether they are whole after it.
 #[test]
 fn ranges_of_a_table() {
     let bytes = layout::encode(&table("<Btn1Up>(2),<Key>: f(x)"));
-    let whole_with = |word: usize, value: u16, types: &[u8]| {
+    let whole = |word: usize, value: u16| {
         let mut bytes = bytes.clone();
         bytes[2 * word..2 * word + 2].copy_from_slice(&value.to_le_bytes());
-        layout::put_types(&mut bytes, types.iter().copied().collect());
         let whole = layout::is_whole(&bytes);
         assert_eq!(layout::decode(&bytes).is_some(), whole);
         whole
     };
-    let whole = |word: usize, value: u16| whole_with(word, value, &[2, 4, 5]);
     // The directive, and the mark of a merged table.
     assert!(whole(0, 2) && !whole(0, 3) && whole(1, 1) && !whole(1, 2));
     // The lengths of the texts: the parameter ends at byte 22, and no second text is kept.
@@ -49,14 +46,9 @@ fn ranges_of_a_table() {
     assert!(!whole(4, 0) && !whole(5, 3) && !whole(6, 2) && !whole(7, 0));
     assert!(!whole(8, 1) && !whole(72, 0) && !whole(9, 1));
     // Codes 2..34, counts above 1 on codes 2..5 only.
-    assert!(whole_with(136, 2, &[2, 3]) && !whole_with(136, 1, &[1, 2]));
-    assert!(!whole_with(136, 6, &[2, 6]) && !whole_with(136, 35, &[2, 35]));
-    assert!(!whole_with(136, 6, &[2, 6, 7]) && !whole_with(136, 35, &[2, 34, 35]));
-    assert!(whole_with(137, 34, &[4, 5, 34]) && whole(392, 9) && !whole(392, 0));
-    assert!(!whole(392, 10) && !whole(393, 13) && whole(393, 1));
-    // A code or a count with the set that went with the one before.
-    assert!(!whole(136, 2) && !whole(137, 34) && !whole(392, 1));
-    assert!(whole_with(392, 1, &[2, 5]) && whole_with(393, 2, &[2, 3, 4, 5]) && !whole(393, 2));
+    assert!(whole(136, 2) && !whole(136, 1) && !whole(136, 6) && !whole(136, 35));
+    assert!(whole(137, 34) && whole(392, 9) && !whole(392, 0) && !whole(392, 10));
+    assert!(!whole(393, 13) && whole(393, 1));
     // Bits, flags and details.
     assert!(whole(648, 8191) && !whole(648, 8192) && whole(904, 1) && !whole(904, 0xFFFF));
     assert!(whole(1160, 7) && whole(1160, 0xFF0F) && !whole(1160, 3) && whole(1161, 3));

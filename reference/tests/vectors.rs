@@ -231,11 +231,6 @@ fn level_4_of_02() {
     check("02/level-04.", 210, |answer| answer, Turned::default());
 }
 
-#[test]
-fn level_5_of_02() {
-    check("02/level-05.", 160, |answer| answer, Turned::default());
-}
-
 /// The three that are turned by motions or names are examples of how the level before answers what
 /// changes.
 #[test]
@@ -245,28 +240,13 @@ fn open_points_of_02() {
         by_names: &[(59, "eacute")],
         rewritten: 10,
     };
-    check("02/open-points.", 139, |answer| answer, turned);
-}
-
-/// A table is answered with its types from level 5 on, and so it says nothing of them below.
-#[test]
-fn types_from_level_5_on() {
-    let request = |level: u8| {
-        let text = hex(b"<Btn1Up>(2):");
-        format!("{{\"op\":\"compile\",\"text\":\"{text}\",\"level\":{level}}}")
-    };
-    let with_types = vectors::answer(&request(5)).unwrap();
-    assert!(with_types.ends_with(",\"types\":[4,5]}}"));
-    let without = with_types.replace(",\"types\":[4,5]", "");
-    for level in 0..5 {
-        assert_eq!(vectors::answer(&request(level)).unwrap(), without);
-    }
+    check("02/open-points.", 134, |answer| answer, turned);
 }
 
 /// A request that counts on a later one of 02 is not answered.
 #[test]
 fn later_levels() {
     let request = |level: u8| format!("{{\"op\":\"compile\",\"text\":\"\",\"level\":{level}}}");
-    assert!(vectors::answer(&request(5)).is_ok());
-    assert!(vectors::answer(&request(6)).is_err());
+    assert!(vectors::answer(&request(4)).is_ok());
+    assert!(vectors::answer(&request(5)).is_err());
 }

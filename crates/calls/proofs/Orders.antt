@@ -6,18 +6,15 @@ use mathlib.Core.List.{List}
 use mathlib.Core.Bool.{Bool, true, false}
 use borrow.Author.Tests.{not-false}
 use Rattle.words.proofs.Bools.{or_no_left, or_no_right}
-use Rattle.model.specs.Numbers.{read_order, counted_number, types_number, types_mask, located_number}
+use Rattle.model.specs.Numbers.{read_order, counted_number, located_number}
 use Rattle.model.specs.Asking.{located}
-use Rattle.model.specs.Types.{type_set}
 use Rattle.model.specs.declared.scan.Span.{Span}
 use Rattle.model.specs.declared.answers.Counted.{Counted}
-use Rattle.model.specs.declared.answers.NamedTypes.{NamedTypes}
 use Rattle.model.specs.declared.answers.Located.{Located}
-use Rattle.tables.specs.Reading.{types_in, decode}
+use Rattle.tables.specs.Reading.{decode}
 use Rattle.tables.specs.Whole.{whole}
-use Rattle.tables.proofs.Theorems.{whole_types}
 use Rattle.calls.specs.Refusals.{is_short, table_broken, texts_short, lent_not_whole, table_refusal, lent_refusal}
-use Rattle.calls.specs.Answers.{if_accepted, no_count, count_number, CountValue, or_refused, count_answer, types_or, types_answer, TypesValue, no_place, place_number, PlaceValues, placed, place_answer}
+use Rattle.calls.specs.Answers.{no_count, count_number, CountValue, or_refused, count_answer, no_place, place_number, PlaceValues, placed, place_answer}
 use Rattle.calls.specs.Parts.{PartWithin}
 
 -- neither 1 nor 12
@@ -76,44 +73,6 @@ module _ (table : List ℕ) where
   count_passed asked e =
       let p = passes (is_short table) (table_broken table) e in
       rw (p.0, p.1)
-
--- ---- Types
-
-types_number_lem : (n set : ℕ) → types_number (types_or n set) ≡ n
-types_number_lem zero set = refl
-types_number_lem (suc n) set = refl
-
-types_value : (n set : ℕ) → types_mask (types_or n set) ≡ if_accepted (types_number (types_or n set)) set 0
-types_value zero set = refl
-types_value (suc n) set = refl
-
-types_stop : (n set : ℕ) → (n ≡ 0 → ⊥) → NamedTypes.Refused n ≡ types_or n set
-types_stop zero set h = absurd (h refl)
-types_stop (suc n) set h = refl
-
-module _ (table : List ℕ) where
-  pub types_refused : (n : ℕ) → n ≡ table_refusal table → (n ≡ 0 → ⊥) → NamedTypes.Refused n ≡ types_answer table
-  unfolding types_answer
-  types_refused n e h = types_stop n (type_set (decode table).productions) h ∙ ap (λ (k : ℕ). types_or k (type_set (decode table).productions)) e
-
-  -- a whole table keeps the set
-  pub types_passed : table_refusal table ≡ 0 → NamedTypes.Accepted (types_in table) ≡ types_answer table
-  unfolding types_answer
-  types_passed e =
-      ap NamedTypes.Accepted (whole_types table (table_whole table e))
-      ∙ ap (λ (k : ℕ). types_or k (type_set (decode table).productions)) (sym e)
-
-  -- an answer's number and set
-  pub typed : (r : NamedTypes) → r ≡ types_answer table
-      → (r ≡ types_answer table) × ((types_number r ≡ table_refusal table) × TypesValue table r)
-  unfolding types_answer
-  typed r e = (
-    e,
-    (
-      ap types_number e ∙ types_number_lem (table_refusal table) (type_set (decode table).productions),
-      subst (TypesValue table) (sym e) (types_value (table_refusal table) (type_set (decode table).productions)),
-    ),
-  )
 
 -- ---- Places
 

@@ -1,14 +1,12 @@
 -- What each request answers, for any bytes: its number, its values, and the case of the answer. What is asked of a table is a
 -- definition of model's Asking, which finds a count or a place or says that it is not there.
 use Rattle.std.specs.Prelude.{ℕ, zero, suc, ◌≡◌, Bool, true, false, List}
-use Rattle.model.specs.Numbers.{read_order, counted_number, counted_count, types_number, types_mask, located_number, located_in_second, located_start, located_length}
+use Rattle.model.specs.Numbers.{read_order, counted_number, counted_count, located_number, located_in_second, located_start, located_length}
 use Rattle.model.specs.Asking.{production_count, call_count, parameter_count, located_name, located_parameter}
 use Rattle.model.specs.declared.answers.Counted.{Counted}
-use Rattle.model.specs.Types.{type_set}
-use Rattle.model.specs.declared.answers.NamedTypes.{NamedTypes}
 use Rattle.model.specs.declared.answers.Located.{Located}
 use Rattle.tables.specs.Reading.{decode}
-use Rattle.calls.specs.Refusals.{is_short, table_broken, lent_not_whole, table_refusal}
+use Rattle.calls.specs.Refusals.{is_short, table_broken, lent_not_whole}
 
 module _ {A : Type 0} where
   -- a value where the number is 0, and what stands for it in a refusal
@@ -47,21 +45,6 @@ calls_answer table production = count_answer table (call_count (decode table) pr
 
 abbrev pub parameters_answer : List ℕ → (production call : ℕ) → Counted
 parameters_answer table production call = count_answer table (parameter_count (decode table) production call)
-
--- ---- R-5: which event types a table names
-
--- a number is a refusal, and 0 lets the set stand
-abbrev pub types_or : ℕ → (set : ℕ) → NamedTypes
-types_or zero set = NamedTypes.Accepted set
-types_or (suc n) set = NamedTypes.Refused (suc n)
-
--- 1 for the table, 12
-unfoldable pub types_answer : List ℕ → NamedTypes
-types_answer table = types_or (table_refusal table) (type_set (decode table).productions)
-
--- the set of an answer r
-abbrev pub TypesValue : List ℕ → NamedTypes → Type 0
-TypesValue table r = types_mask r ≡ if_accepted (types_number r) (type_set (decode table).productions) 0
 
 -- ---- Where
 

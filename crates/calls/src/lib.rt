@@ -1,16 +1,16 @@
-// How many productions, calls and parameters a table has, which event types it names, and where a call's name or a parameter
-// stands, as a part of the text. Any bytes may be lent: what is no table is refused.
+// How many productions, calls and parameters a table has, and where a call's name or a parameter stands, as a part of the
+// text. Any bytes may be lent: what is no table is refused.
 ghost use Rattle.std.specs.Prelude.{◌≡◌, true};
-ghost use Rattle.model.specs.Numbers.{counted_number, types_number, located_number};
+ghost use Rattle.model.specs.Numbers.{counted_number, located_number};
 ghost use Rattle.model.specs.Asking.{located, production_count, call_count, parameter_count, located_name, located_parameter};
 ghost use Rattle.tables.specs.Reading.{decode};
 ghost use Rattle.tables.specs.Whole.{whole};
 ghost use Rattle.calls.specs.Refusals.{table_refusal, lent_refusal};
 ghost use Rattle.calls.specs.Places.{place_of};
-ghost use Rattle.calls.specs.Answers.{count_number, CountValue, productions_answer, calls_answer, parameters_answer, types_answer, TypesValue, place_number, PlaceValues, name_answer, parameter_answer};
+ghost use Rattle.calls.specs.Answers.{count_number, CountValue, productions_answer, calls_answer, parameters_answer, place_number, PlaceValues, name_answer, parameter_answer};
 ghost use Rattle.calls.specs.Parts.{PartWithin, IsPart};
 
-use model::answers::{Counted, Located, NamedTypes};
+use model::answers::{Counted, Located};
 use model::scan::Span;
 
 // The place of a call among all calls of the table.
@@ -111,21 +111,6 @@ pub fn parameter_count(table: &[u8], production: usize, call: usize) -> Counted
         Place::Nothing => Counted::Refused(16),
         Place::At(i) => Counted::Accepted(tables::read::call_parameters(table, i)),
     }
-}
-
-// ---- Which types
-
-// The event types that a table names, from which a toolkit knows what to ask the server for.
-pub fn types_of(table: &[u8]) -> NamedTypes
-    ensures answer { result ≡ types_answer table.now }
-    ensures number { types_number result ≡ table_refusal table.now }
-    ensures types { TypesValue table.now result }
-{
-    let refusal = table_refusal(table);
-    if refusal != 0 {
-        return NamedTypes::Refused(refusal);
-    }
-    NamedTypes::Accepted(tables::read::types(table))
 }
 
 // ---- Where

@@ -10,12 +10,11 @@ use lib.ListN.{length}
 use Rattle.words.specs.Words.{zeros}
 use borrow.Author.Tests.{leb-true, leb-false, ltb-false, le-ltb}
 use Rattle.model.specs.Lists.{earliest}
-use Rattle.model.specs.Numbers.{read_order, compiled_place, counted_count, types_mask, located_start, located_length}
+use Rattle.model.specs.Numbers.{read_order, compiled_place, counted_count, located_start, located_length}
 use Rattle.model.specs.Bytes.{is_allowed, first_bad_byte}
 use Rattle.model.specs.Lines.{line_end, line_at, is_blank_line, directive_at}
 use Rattle.model.specs.Compiling.{LineOutcome, add, line_outcome, Outcome, accepted, refused, table_of, go_on, after_line, after_directive, lines_from, lines_of, after_bytes, compiled, compile_outcome, outcome_answer}
 use Rattle.model.specs.Tables.{Production, Table}
-use Rattle.model.specs.Types.{type_set}
 use Rattle.model.specs.Asking.{located_name, located_parameter}
 use Rattle.model.specs.Asking as asking
 use Rattle.model.specs.declared.events.Directive.{Directive}
@@ -27,12 +26,11 @@ use Rattle.words.proofs.Laws.{length_zeros}
 use Rattle.tables.proofs.Positions.{cond_both}
 use Rattle.table_check.proofs.WholeFacts.{facts_of_whole}
 use Rattle.tables.proofs.Theorems.{whole_holds}
-use Rattle.tables.proofs.Encoded.{set_below}
 use Rattle.calls.specs.declared.Place.{Place}
 use Rattle.calls.specs.Places.{place_of}
 use Rattle.calls.specs.Parts.{PartWithin}
 use Rattle.calls.specs.Refusals.{is_short, table_broken, texts_short, lent_not_whole, table_refusal, lent_refusal}
-use Rattle.calls.specs.Answers.{no_count, count_number, or_refused, count_answer, productions_answer, calls_answer, parameters_answer, types_or, types_answer, no_place, place_number, placed, place_answer, name_answer, parameter_answer}
+use Rattle.calls.specs.Answers.{no_count, count_number, or_refused, count_answer, productions_answer, calls_answer, parameters_answer, no_place, place_number, placed, place_answer, name_answer, parameter_answer}
 use Rattle.calls.proofs.Orders.{table_whole, lent_whole}
 use Rattle.calls.proofs.Asked.{productions_here, calls_here, calls_past, parameters_here, parameters_past_lem, place_below}
 use Rattle.calls.proofs.Located.{name_within_lem, parameter_within_lem}
@@ -120,14 +118,6 @@ module _ (table : List ℕ) where
   pub productions_small : counted_count (productions_answer table) ≤ 64
   productions_small =
       count_small (asking.production_count (decode table)) (λ w. rw (productions_here table) (facts_of_whole table w).productions)
-
-  set_small : (n set : ℕ) → set < 34359738368 → types_mask (types_or n set) < 34359738368
-  set_small zero set h = h
-  set_small (suc n) set h = omega arith
-
-  pub types_small : types_mask (types_answer table) < 34359738368
-  unfolding types_answer
-  types_small = set_small (table_refusal table) (type_set (decode table).productions) (set_below (decode table).productions)
 
   calls_of : (p : ℕ) → whole table ≡ true → (b : Bool) → leb (production_total table) p ≡ b → counted_count (asking.call_count (decode table) p) ≤ 64
   calls_of p w true e = rw (calls_past table p (leb-true (production_total table) p e)) (omega arith)

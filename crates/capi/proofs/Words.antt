@@ -1,15 +1,14 @@
 -- The number of each case of an answer.
-use Prim.Native.Nat.{ℕ, ◌+◌, ◌*◌, ◌≤◌, ◌<◌}
+use Prim.Native.Nat.{ℕ, ◌+◌, ◌*◌, ◌≤◌}
 use native.Mathlib.Omega.{arith}
 use mathlib.Core.Path.{◌≡◌}
-use Rattle.model.specs.Numbers.{compiled_place, written_length, counted_count, types_mask, located_start, located_length}
+use Rattle.model.specs.Numbers.{compiled_place, written_length, counted_count, located_start, located_length}
 use Rattle.model.specs.declared.answers.Compiled.{Compiled}
 use Rattle.model.specs.declared.answers.Merged.{Merged}
 use Rattle.model.specs.declared.answers.Written.{Written}
 use Rattle.model.specs.declared.answers.Counted.{Counted}
-use Rattle.model.specs.declared.answers.NamedTypes.{NamedTypes}
 use Rattle.model.specs.declared.answers.Located.{Located}
-use Rattle.capi.specs.Answers.{compiled_word, merged_word, written_word, counted_word, types_word, located_word}
+use Rattle.capi.specs.Answers.{compiled_word, merged_word, written_word, counted_word, located_word}
 
 -- ---- The compiler
 
@@ -64,20 +63,6 @@ module _ (a : Counted) (n : ℕ) where
 
   pub count_of_lem : a ≡ Counted.Accepted n → counted_count a ≤ 64 → n ≤ 64
   count_of_lem e h = rw e at h
-
--- ---- Types
-
-module _ (a : NamedTypes) (n : ℕ) where
-  pub types_accepted : a ≡ NamedTypes.Accepted n → 256 * n ≡ types_word a
-  unfolding types_word
-  types_accepted e = rw e (omega arith)
-
-  pub types_refused : a ≡ NamedTypes.Refused n → (r : ℕ) → r ≡ n → r ≡ types_word a
-  unfolding types_word
-  types_refused e r q = rw e (omega arith)
-
-  pub mask_of_lem : a ≡ NamedTypes.Accepted n → types_mask a < 34359738368 → n < 34359738368
-  mask_of_lem e h = rw e at h
 
 -- ---- Places
 

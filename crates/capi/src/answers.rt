@@ -1,10 +1,10 @@
 // Answers as numbers of 64 bits: document 01's number in the lowest byte, and its values above it.
 ghost use Rattle.std.specs.Prelude.{◌≡◌, ◌+◌, ◌*◌, ◌≤◌, ◌<◌};
-ghost use Rattle.model.specs.Numbers.{compiled_place, written_length, counted_count, types_mask, located_start, located_length, matched_selection};
+ghost use Rattle.model.specs.Numbers.{compiled_place, written_length, counted_count, located_start, located_length, matched_selection};
 ghost use Rattle.capi.specs.Match.{selection_mark, matched_word};
-ghost use Rattle.capi.specs.Answers.{compiled_word, merged_word, written_word, counted_word, types_word, located_word};
+ghost use Rattle.capi.specs.Answers.{compiled_word, merged_word, written_word, counted_word, located_word};
 
-use model::answers::{Compiled, Counted, Located, Matched, Merged, NamedTypes, Written};
+use model::answers::{Compiled, Counted, Located, Matched, Merged, Written};
 
 fn wide(b: u8) -> u64
     ensures { (result ≡ b) × (result < 256) }
@@ -56,17 +56,6 @@ pub fn counted_word(a: Counted) -> u64
     match a {
         Counted::Accepted(count) => with_value(0, count),
         Counted::Refused(number) => wide(number),
-    }
-}
-
-// The set has 35 bits.
-pub fn types_word(a: NamedTypes) -> u64
-    requires { types_mask a < 34359738368 }
-    ensures { result ≡ types_word a }
-{
-    match a {
-        NamedTypes::Accepted(set) => 256 * set,
-        NamedTypes::Refused(number) => wide(number),
     }
 }
 

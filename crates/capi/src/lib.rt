@@ -9,10 +9,10 @@ ghost use Rattle.keyboard.specs.Maps.{lent_setting};
 ghost use Rattle.compiler.specs.Compile.{compile_answer, compiled_bytes};
 ghost use Rattle.merger.specs.Merge.{merge_answer, merged_bytes};
 ghost use Rattle.printer.specs.Write.{written, written_bytes};
-ghost use Rattle.calls.specs.Answers.{productions_answer, calls_answer, parameters_answer, types_answer, name_answer, parameter_answer};
+ghost use Rattle.calls.specs.Answers.{productions_answer, calls_answer, parameters_answer, name_answer, parameter_answer};
 ghost use Rattle.capi.specs.State.{state_length};
 ghost use Rattle.capi.specs.Match.{fresh_number, fresh_bytes, matched_word, matched_on, state_left};
-ghost use Rattle.capi.specs.Answers.{compiled_word, merged_word, written_word, counted_word, types_word, located_word};
+ghost use Rattle.capi.specs.Answers.{compiled_word, merged_word, written_word, counted_word, located_word};
 
 // ---- Lengths
 
@@ -85,14 +85,6 @@ pub extern "C" fn tt_parameters(table: &[u8], production: usize, call: usize) ->
     ensures { result ≡ counted_word (parameters_answer table.now production call) }
 {
     answers::counted_word(calls::parameter_count(table, production, call))
-}
-
-// The number, and above it the set of the event types that the table names: bit c stands for code c.
-#[unsafe(no_mangle)]
-pub extern "C" fn tt_types(table: &[u8]) -> u64
-    ensures { result ≡ types_word (types_answer table.now) }
-{
-    answers::types_word(calls::types_of(table))
 }
 
 // The number, the mark of the text, and where the name of a call stands in it.

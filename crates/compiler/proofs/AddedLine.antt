@@ -124,7 +124,6 @@ so_far_room ps h =
       events = events_in_all_lem ps f;
       calls = calls_in_all_lem ps f;
       parameters = parameters_in_all_lem ps f;
-      types = omega arith;
     }
 
 module _ (ps : List Production) (base : ℕ) (l : List ℕ) (p : Production) (g : LineAdds ps base l p) where
@@ -197,7 +196,6 @@ module _ (ps : List Production) (base : ℕ) (l : List ℕ) (p : Production) (g 
         events = omega (arith, length-append (all_events ps) p.events, s.kept, s.events);
         calls = r.calls;
         parameters = r.parameters;
-        types = r.types;
       }
 
   room₂ : passes_limit ps ≡ false → Room (more_calls (more_events (so_far ps) p.events) p.calls)
@@ -211,7 +209,6 @@ module _ (ps : List Production) (base : ℕ) (l : List ℕ) (p : Production) (g 
         events = r.events;
         calls = omega (arith, length-append (all_calls ps) p.calls, s.called, s.calls);
         parameters = omega (arith, length-append (layout.all_parameters (all_calls ps)) (layout.all_parameters p.calls), s.given, s.parameters);
-        types = r.types;
       }
 
   module _ (rest : List ℕ) (h : passes_limit ps ≡ false) where

@@ -31,7 +31,6 @@ more_events x es =
       events = x.events ++ es;
       calls = x.calls;
       parameters = x.parameters;
-      types = x.types;
     }
 
 abbrev pub more_parameters : Entries → List Span → Entries
@@ -43,7 +42,6 @@ more_parameters x ss =
       events = x.events;
       calls = x.calls;
       parameters = x.parameters ++ ss;
-      types = x.types;
     }
 
 abbrev pub more_calls : Entries → List Call → Entries
@@ -55,7 +53,6 @@ more_calls x cs =
       events = x.events;
       calls = x.calls ++ cs;
       parameters = x.parameters ++ all_parameters cs;
-      types = x.types;
     }
 
 -- ---- Events
@@ -78,7 +75,6 @@ event_room x e r h =
       events = omega (arith, length-append x.events (e ∷ []));
       calls = r.calls;
       parameters = r.parameters;
-      types = r.types;
     }
 
 pub put_events : (rest : List ℕ) (es : List WrittenEvent) (ks : List KeptEvent) (x : Entries) (i : ℕ) → Room x → judged_all es ≡ keep ks
@@ -86,7 +82,7 @@ pub put_events : (rest : List ℕ) (es : List WrittenEvent) (ks : List KeptEvent
 put_events rest [] ks x i r h q b =
     let n : x.events ++ ks ≡ x.events = ap (λ (l : List KeptEvent). x.events ++ l) (none_kept ks h) ∙ append-nil x.events in
     put_none (image x ++ rest) i
-    ∙ ap (λ (l : List KeptEvent). image (record { header = x.header; production_events = x.production_events; production_calls = x.production_calls; events = l; calls = x.calls; parameters = x.parameters; types = x.types }) ++ rest) (sym n)
+    ∙ ap (λ (l : List KeptEvent). image (record { header = x.header; production_events = x.production_events; production_calls = x.production_calls; events = l; calls = x.calls; parameters = x.parameters }) ++ rest) (sym n)
 put_events rest (e ∷ es) ks x i r h q b =
     let f = kept_first e es ks h in
     let k = f.first in
@@ -98,7 +94,7 @@ put_events rest (e ∷ es) ks x i r h q b =
     ∙ ap (λ (m : ℕ). put_written (put_event (image x ++ rest) m k) (i + 1) es) q
     ∙ ap (λ (l : List ℕ). put_written l (i + 1) es) (written.put_event_lem x rest r k z)
     ∙ put_events rest es f.others y (i + 1) (event_room x k r z) f.are (omega (arith, length-append x.events (k ∷ []))) (omega arith)
-    ∙ ap (λ (l : List KeptEvent). image (record { header = x.header; production_events = x.production_events; production_calls = x.production_calls; events = l; calls = x.calls; parameters = x.parameters; types = x.types }) ++ rest) n
+    ∙ ap (λ (l : List KeptEvent). image (record { header = x.header; production_events = x.production_events; production_calls = x.production_calls; events = l; calls = x.calls; parameters = x.parameters }) ++ rest) n
 
 -- ---- Parameters
 
@@ -111,7 +107,6 @@ parameter_room x s r h =
       events = r.events;
       calls = r.calls;
       parameters = omega (arith, length-append x.parameters (s ∷ []));
-      types = r.types;
     }
 
 abbrev with_spans : Entries → List Span → Entries
@@ -123,7 +118,6 @@ with_spans x ss =
       events = x.events;
       calls = x.calls;
       parameters = ss;
-      types = x.types;
     }
 
 pub put_parameters_lem : (rest : List ℕ) (ss : List Span) (x : Entries) (i : ℕ) → Room x → i ≡ length x.parameters
@@ -148,7 +142,6 @@ call_room x c r h =
       events = r.events;
       calls = omega (arith, length-append x.calls (c ∷ []));
       parameters = r.parameters;
-      types = r.types;
     }
 
 spans_room : (x : Entries) (ss : List Span) → Room x → length x.parameters + length ss ≤ 256 → Room (more_parameters x ss)
@@ -160,7 +153,6 @@ spans_room x ss r h =
       events = r.events;
       calls = r.calls;
       parameters = omega (arith, length-append x.parameters ss);
-      types = r.types;
     }
 
 put_whole_lem : (rest : List ℕ) (c : Call) (x : Entries) (n p : ℕ) → Room x → n ≡ length x.calls → p ≡ length x.parameters → n < 128
@@ -184,7 +176,6 @@ with_both x cs ss =
       events = x.events;
       calls = cs;
       parameters = ss;
-      types = x.types;
     }
 
 parameters_of_cons : (c : Call) (cs : List Call) → all_parameters (c ∷ cs) ≡ c.parameters ++ all_parameters cs
@@ -247,5 +238,4 @@ so_far_more ps p =
       events = c i;
       calls = d i;
       parameters = e i;
-      types = [];
     }

@@ -11,21 +11,14 @@ use borrow.Author.Tests.{le-leb, lt-leb}
 use Rattle.words.specs.Words.{zeros, cleared}
 use Rattle.model.specs.Lines.{line_end, line_at, is_blank_line, directive_at}
 use Rattle.model.specs.Compiling.{passes_limit, totals_pass, LineOutcome, add, line_outcome, Outcome, accepted, refused, table_of, go_on, after_line, after_directive, lines_from, lines_of}
-use Rattle.model.specs.Lists.{all}
 use Rattle.model.specs.Tables.{Production}
-use Rattle.model.specs.Types.{type_set}
 use Rattle.model.specs.declared.events.Directive.{Directive}
 use Rattle.lines.specs.Totals.{totals_of, TotalsIn}
 use Rattle.lines.specs.declared.totals.Totals.{Totals}
 use Rattle.lines.proofs.Sums.{totals_in}
-use Rattle.tables.specs.Layout.{table_length, directive_word, flag, type_words, flat, all_events, header_of, entries_of, image, encode}
-use Rattle.tables.specs.Writing.{with_header, with_types}
-use Rattle.tables.specs.Fitting.{event_in_range}
-use Rattle.tables.proofs.Positions.{Small}
-use Rattle.tables.proofs.Facts.{FitFacts, fit_facts}
-use Rattle.tables.proofs.CompiledFits.{lines_table_fits}
+use Rattle.tables.specs.Layout.{table_length, directive_word, flag, flat, header_of, entries_of, image, encode}
+use Rattle.tables.specs.Writing.{with_header}
 use Rattle.tables.proofs.Written as written
-use Rattle.types.proofs.Last.{put_last}
 use Rattle.compiler.specs.WholeLine.{put_header}
 use Rattle.compiler.specs.Held.{so_far, held}
 use Rattle.compiler.specs.Progress.{Underway, LineStep, going, stopped, outcome_step, plain_step, line_step, step_done, StepHeld}
@@ -173,20 +166,19 @@ module _ (text out : List ℕ) (s : Progress) (at : ℕ) (x : Next text out s at
       let l : leb (length text) (line_end text at) ≡ true = le-leb (length text) (line_end text at) (omega arith) in
       x.same ∙ ap (λ (b : Bool). cond b (accepted (table_of text s.directive x.ps)) (lines_from x.f text (line_end text at + 1) s.directive x.ps)) l
 
--- ---- The header and the set of types
+-- ---- The header
 
 header_held : (text : List ℕ) (ps : List Production) (rest : List ℕ) (d : Directive) → passes_limit ps ≡ false
-    → all event_in_range (all_events ps) ≡ true
     → put_header (held ps rest) d (totals_of ps) (length text) ≡ encode (table_of text d ps) ++ rest
 unfolding put_header held encode entries_of header_of
-header_held text ps rest d h range =
+header_held text ps rest d h =
     let n = totals_are ps in
     let a = n.productions in
     let b = n.events in
     let c = n.calls in
     let e = n.parameters in
-    put_last (so_far ps) rest (so_far_room ps h) ps refl range d false (length text) 0 (totals_of ps).productions (totals_of ps).events (totals_of ps).calls (totals_of ps).parameters b
-    ∙ (λ i. image (with_types (with_header (so_far ps) (directive_word d ∷ flag 1 false ∷ length text ∷ 0 ∷ a i ∷ b i ∷ c i ∷ e i ∷ [])) (type_words (type_set ps))) ++ rest)
+    written.put_header_lem (so_far ps) rest (so_far_room ps h) d false (length text) 0 (totals_of ps).productions (totals_of ps).events (totals_of ps).calls (totals_of ps).parameters
+    ∙ (λ i. image (with_header (so_far ps) (directive_word d ∷ flag 1 false ∷ length text ∷ 0 ∷ a i ∷ b i ∷ c i ∷ e i ∷ [])) ++ rest)
 
 module _ (text : List ℕ) where
   -- a refusal, with the buffer cleared again
@@ -196,17 +188,15 @@ module _ (text : List ℕ) where
   refused_bytes out new n at h e c =
       c ∙ ap (λ (r : List ℕ). zeros table_length ++ r) (nothing_past out h) ∙ append-nil (zeros table_length) ∙ ap image_of (sym e)
 
-  pub accepted_bytes : (out new : List ℕ) (s : Progress) (at : ℕ) (x : Next text out s at) → Small text → length text ≤ 8192
+  pub accepted_bytes : (out new : List ℕ) (s : Progress) (at : ℕ) (x : Next text out s at)
       → lines_of text ≡ accepted (table_of text s.directive x.ps)
       → new ≡ put_header out s.directive s.totals (length text)
       → new ≡ image_of (lines_of text)
   unfolding image_of
-  accepted_bytes out new s at x small short e c =
-      let f : FitFacts (table_of text s.directive x.ps) =
-      fit_facts (table_of text s.directive x.ps) (lines_table_fits text (table_of text s.directive x.ps) small short e) in
+  accepted_bytes out new s at x e c =
       c
       ∙ ap (λ (o : List ℕ). put_header o s.directive s.totals (length text)) x.bytes
       ∙ ap (λ (t : Totals). put_header (held x.ps []) s.directive t (length text)) x.totals
-      ∙ header_held text x.ps [] s.directive x.kept f.events
+      ∙ header_held text x.ps [] s.directive x.kept
       ∙ append-nil (encode (table_of text s.directive x.ps))
       ∙ ap image_of (sym e)

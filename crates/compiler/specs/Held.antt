@@ -1,5 +1,4 @@
--- The bytes of a table while it is made: the entries of the productions so far, and no header and no set of types, which are
--- written last.
+-- The bytes of a table while it is made: the entries of the productions so far, and no header, which is written last.
 use Rattle.std.specs.Prelude.{ℕ, List, [], ◌++◌, map, length}
 use Rattle.model.specs.Tables.{Production}
 use Rattle.tables.specs.Layout.{Entries, all_events, all_calls, all_parameters, image}
@@ -13,7 +12,6 @@ so_far ps =
       events = all_events ps;
       calls = all_calls ps;
       parameters = all_parameters (all_calls ps);
-      types = [];
     }
 
 -- with what follows the table in the buffer

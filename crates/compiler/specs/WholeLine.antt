@@ -1,5 +1,4 @@
--- A whole line in the bytes of a table: its two sides and its production, and that they fit. And the header and the set of types,
--- which are written last.
+-- A whole line in the bytes of a table: its two sides and its production, and that they fit. And the header, which is written last.
 use Rattle.std.specs.Prelude.{ℕ, ◌≤◌, ◌<◌, ◌≡◌, false, List, map}
 use Rattle.model.specs.Events.{left_side}
 use Rattle.model.specs.Calls.{right_side}
@@ -11,9 +10,7 @@ use Rattle.lines.specs.Line.{calls_start}
 use Rattle.lines.specs.declared.line.LineJudged.{LineJudged}
 use Rattle.lines.specs.declared.totals.Totals.{Totals}
 use Rattle.lines.specs.declared.totals.Line.{Line}
-use Rattle.tables.specs.Writing.{put_production}
-use Rattle.types.specs.Scan.{gathered}
-use Rattle.types.specs.Last.{put_last}
+use Rattle.tables.specs.Writing.{put_production, put_texts, put_counts}
 use Rattle.line_writer.specs.Puts.{put_written, put_calls}
 use Rattle.line_writer.specs.Reads.{EventsFit, CallsFit}
 
@@ -45,7 +42,6 @@ pub record LineFits (l : List ℕ) (t : Totals) (line : Line) : Type 0 where
   pub few_events : line.events ≤ 256
   pub few_calls_lem : line.calls ≤ 128
 
--- the header of a table of one text, and its set of types
+-- the header of a table of one text
 unfoldable pub put_header : List ℕ → Directive → Totals → (text : ℕ) → List ℕ
-put_header out d t text =
-    put_last out (gathered out t.events) d false text 0 t.productions t.events t.calls t.parameters
+put_header out d t text = put_counts (put_texts out d false text 0) t.productions t.events t.calls t.parameters

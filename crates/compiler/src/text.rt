@@ -14,7 +14,7 @@ use model::answers::Compiled;
 use model::events::Directive;
 use scanner::lines::line_end;
 use tables::TABLE_LENGTH;
-use types::write::put_last;
+use tables::write::{put_counts, put_texts};
 
 // A refusal leaves the empty table.
 pub fn refuse(table: &mut [u8], number: u8, place: usize) -> Compiled
@@ -25,29 +25,18 @@ pub fn refuse(table: &mut [u8], number: u8, place: usize) -> Compiled
     Compiled::Refused { number, place }
 }
 
-// The header of a table of one text, and its set of types.
+// The header of a table of one text.
 pub fn write_header(out: &mut [u8], s: Progress, text: usize)
     requires { ((table_length ≤ length out.old) × (text ≤ 8192)) × TotalsIn s.totals }
     ensures { out.new ≡ put_header out.old s.directive s.totals text }
 {
     let t = s.totals;
     let d = s.directive;
-    let set = types::gather(out, t.events);
-    put_last(
-        out,
-        set,
-        d,
-        false,
-        text,
-        0,
-        t.productions,
-        t.events,
-        t.calls,
-        t.parameters,
-    );
+    put_texts(out, d, false, text, 0);
+    put_counts(out, t.productions, t.events, t.calls, t.parameters);
 }
 
-// Line by line. The header and the set of types are written after the last line.
+// Line by line. The header is written after the last line.
 pub fn compile_lines(text: &[u8], out: &mut [u8]) -> Compiled
     requires { (length out.old ≡ table_length) × (length text.now ≤ 8192) }
     ensures { (result ≡ outcome_answer (lines_of text.now)) × (out.new ≡ image_of (lines_of text.now)) }

@@ -4,9 +4,7 @@ use Rattle.model.specs.Tables.{Call, Production}
 use Rattle.model.specs.declared.events.Directive.{Directive}
 use Rattle.tables.specs.Layout.{all_parameters}
 use Rattle.tables.specs.Reading.{production_total, directive_in, first_length_in}
-use Rattle.tables.specs.Writing.{put_event, put_call, put_parameter, put_production}
-use Rattle.types.specs.Scan.{gathered}
-use Rattle.types.specs.Last.{put_last}
+use Rattle.tables.specs.Writing.{put_event, put_call, put_parameter, put_production, put_texts, put_counts}
 use Rattle.tally.specs.Kept.{kept_from}
 use Rattle.tally.specs.Counting.{no_tally, tally_one, tally_all, tally_merged}
 use Rattle.tally.specs.declared.count.Tally.{Tally}
@@ -51,16 +49,11 @@ put_by Directive.Augment old new out =
     (tally_all no_tally (kept_from old 0 new 0))
     (kept_from new 0 old (production_total old))
 
--- and the header, "The result counts as replace and as merged", with the set of types
+-- and the header: "The result counts as replace and as merged"
 unfoldable pub put_merged : (old new out : List ℕ) → List ℕ
 put_merged old new out =
-    put_last
-    (put_by (directive_in new) old new out)
-    (gathered (put_by (directive_in new) old new out) (tally_merged old new).events)
-    Directive.Replace
-    true
-    (first_length_in old)
-    (first_length_in new)
+    put_counts
+    (put_texts (put_by (directive_in new) old new out) Directive.Replace true (first_length_in old) (first_length_in new))
     (tally_merged old new).productions
     (tally_merged old new).events
     (tally_merged old new).calls

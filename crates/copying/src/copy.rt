@@ -127,17 +127,6 @@ pub fn put_merged(old: &[u8], new: &[u8], out: &mut [u8])
     let first = tables::read::first_length(old);
     let second = tables::read::first_length(new);
     let t = copy_merged(old, new, out);
-    let set = types::gather(out, t.events);
-    types::write::put_last(
-        out,
-        set,
-        Directive::Replace,
-        true,
-        first,
-        second,
-        t.productions,
-        t.events,
-        t.calls,
-        t.parameters,
-    );
+    tables::write::put_texts(out, Directive::Replace, true, first, second);
+    tables::write::put_counts(out, t.productions, t.events, t.calls, t.parameters);
 }

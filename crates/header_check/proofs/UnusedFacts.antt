@@ -8,7 +8,7 @@ use Rattle.words.specs.Words.{word_at}
 use Rattle.words.specs.Runs.{every}
 use Rattle.words.proofs.Bools.{chain_parts}
 use Rattle.tables.specs.Layout.{for_each, event_fields, call_fields, parameter_fields, capacities}
-use Rattle.tables.specs.Layout.{production_events_at, production_calls_at, codes_at, counts_at, sets_at, clears_at, flags_at, lows_at, highs_at, first_lows_at, first_highs_at, second_lows_at, second_highs_at, third_lows_at, third_highs_at, fourth_lows_at, fourth_highs_at, marks_at, name_starts_at, name_lengths_at, call_parameters_at, parameter_starts_at, parameter_lengths_at, types_at}
+use Rattle.tables.specs.Layout.{production_events_at, production_calls_at, codes_at, counts_at, sets_at, clears_at, flags_at, lows_at, highs_at, first_lows_at, first_highs_at, second_lows_at, second_highs_at, third_lows_at, third_highs_at, fourth_lows_at, fourth_highs_at, marks_at, name_starts_at, name_lengths_at, call_parameters_at, parameter_starts_at, parameter_lengths_at}
 use Rattle.header_check.specs.Unused.{rest_zero, productions_rest, tests_rest, details_rest, first_two_rest, last_two_rest, calls_rest, parameters_rest, unused_ok}
 use Rattle.header_check.proofs.HeaderFacts.{HeaderFacts}
 
@@ -22,15 +22,11 @@ abbrev pub used : List ℕ → List ℕ
 used l =
     8
     ∷ word_at l 4 ∷ word_at l 4
-    ∷ (for_each event_fields (word_at l 5) ++ (for_each call_fields (word_at l 6) ++ (for_each parameter_fields (word_at l 7) ++ (3 ∷ []))))
+    ∷ (for_each event_fields (word_at l 5) ++ (for_each call_fields (word_at l 6) ++ for_each parameter_fields (word_at l 7)))
 
 header_used : (l : List ℕ) → rest_zero l 0 8 8 ≡ true
 unfolding rest_zero every
 header_used l = refl
-
-types_used : (l : List ℕ) → rest_zero l types_at 3 3 ≡ true
-unfolding rest_zero every
-types_used l = refl
 
 pub rest_facts : (l : List ℕ) → HeaderFacts l → unused_ok l ≡ true → first_two_rest l (word_at l 5) ≡ true → last_two_rest l (word_at l 5) ≡ true
     → Rests l capacities (used l) 0
@@ -45,7 +41,6 @@ rest_facts l h e f g =
     let c = chain_parts (rest_zero l marks_at 128 (word_at l 6)) (rest_zero l name_starts_at 128 (word_at l 6) ∷ rest_zero l name_lengths_at 128 (word_at l 6) ∷ rest_zero l call_parameters_at 128 (word_at l 6) ∷ []) r.1.1.1.0 in
     let s = chain_parts (rest_zero l parameter_starts_at 256 (word_at l 7)) (rest_zero l parameter_lengths_at 256 (word_at l 7) ∷ []) r.1.1.1.1.0 in
     let all : 8 ≤ 8 = omega arith in
-    let three : 3 ≤ 3 = omega arith in
     more all (header_used l)
     (more h.productions p.0
     (more h.productions p.1.0
@@ -69,5 +64,4 @@ rest_facts l h e f g =
     (more h.calls c.1.1.0
     (more h.calls c.1.1.1.0
     (more h.parameters s.0
-    (more h.parameters s.1.0
-    (more three (types_used l) none))))))))))))))))))))))))
+    (more h.parameters s.1.0 none)))))))))))))))))))))))

@@ -30,7 +30,6 @@ with_events x es =
       events = x.events ++ es;
       calls = x.calls;
       parameters = x.parameters;
-      types = x.types;
     }
 
 abbrev with_calls : Entries → List Call → Entries
@@ -42,7 +41,6 @@ with_calls x cs =
       events = x.events;
       calls = x.calls ++ cs;
       parameters = x.parameters;
-      types = x.types;
     }
 
 abbrev with_parameters : Entries → List Span → Entries
@@ -54,7 +52,6 @@ with_parameters x ss =
       events = x.events;
       calls = x.calls;
       parameters = x.parameters ++ ss;
-      types = x.types;
     }
 
 room_events : (x : Entries) (es : List KeptEvent) → Room x → length x.events + length es ≤ 256 → Room (with_events x es)
@@ -66,7 +63,6 @@ room_events x es r h =
       events = omega (arith, length-append x.events es);
       calls = r.calls;
       parameters = r.parameters;
-      types = r.types;
     }
 
 room_calls : (x : Entries) (cs : List Call) → Room x → length x.calls + length cs ≤ 128 → Room (with_calls x cs)
@@ -78,7 +74,6 @@ room_calls x cs r h =
       events = r.events;
       calls = omega (arith, length-append x.calls cs);
       parameters = r.parameters;
-      types = r.types;
     }
 
 room_parameters : (x : Entries) (ss : List Span) → Room x → length x.parameters + length ss ≤ 256 → Room (with_parameters x ss)
@@ -90,7 +85,6 @@ room_parameters x ss r h =
       events = r.events;
       calls = r.calls;
       parameters = omega (arith, length-append x.parameters ss);
-      types = r.types;
     }
 
 one_more : {A : Type 0} (xs : List A) (x : A) (n : ℕ) → length xs ≡ n → length (xs ++ (x ∷ [])) ≡ suc n
@@ -139,7 +133,6 @@ body_of ps =
       events = all_events ps;
       calls = all_calls ps;
       parameters = all_parameters (all_calls ps);
-      types = [];
     }
 
 pub body_none : body_of [] ≡ no_entries
@@ -157,7 +150,6 @@ body_room ps r =
       events = omega (arith, s.events, r.events);
       calls = omega (arith, s.calls, r.calls);
       parameters = omega (arith, s.parameters, r.parameters);
-      types = omega arith;
     }
 
 map_one : (f : Production → ℕ) (ps : List Production) (q : Production) → map f (ps ++ (q ∷ [])) ≡ map f ps ++ (f q ∷ [])
@@ -178,7 +170,6 @@ body_with s ps q =
       events = all_events ps ++ q.events;
       calls = all_calls ps ++ map (marked_call s) q.calls;
       parameters = all_parameters (all_calls ps) ++ all_parameters q.calls;
-      types = [];
     }
 
 body_more : (s : Bool) (ps : List Production) (q : Production) → body_with s ps q ≡ body_of (ps ++ (from_text s q ∷ []))

@@ -7,21 +7,16 @@ use mathlib.Core.List.{List, [], ◌∷◌, ◌++◌, map}
 use lib.ListN.{length, drop}
 use Rattle.words.specs.Words.{cleared}
 use Rattle.model.specs.Tables.{Production, Table}
-use Rattle.model.specs.Types.{type_set}
 use Rattle.model.specs.Merging.{merged_table, merge_passes_limit}
 use Rattle.model.specs.declared.events.Directive.{Directive}
-use Rattle.tables.specs.Layout.{Entries, flag, directive_word, type_words, all_events, all_calls, all_parameters, header_of, entries_of, image, encode, table_length}
+use Rattle.tables.specs.Layout.{Entries, flag, directive_word, all_events, all_calls, all_parameters, header_of, entries_of, image, encode, table_length}
 use Rattle.tables.specs.Reading.{production_total, directive_in, first_length_in, decode}
-use Rattle.tables.specs.Writing.{no_entries, with_header, with_types}
+use Rattle.tables.specs.Writing.{put_texts, put_counts, no_entries, with_header}
 use Rattle.tables.specs.Fitting.{fitting}
 use Rattle.tables.specs.Whole.{whole}
 use Rattle.tables.proofs.Theorems.{whole_encode, decode_encode}
-use Rattle.tables.proofs.Facts.{fit_facts}
-use Rattle.tables.proofs.Written.{cleared_holds}
+use Rattle.tables.proofs.Written.{put_header_lem, cleared_holds}
 use Rattle.tables.proofs.MergedFits.{merged_fits}
-use Rattle.types.specs.Scan.{gathered}
-use Rattle.types.specs.Last.{put_last}
-use Rattle.types.proofs.Last.{put_last}
 use Rattle.tally.specs.Kept.{kept_from, from_text}
 use Rattle.tally.specs.Counting.{no_tally, tally_all, tally_by, tally_merged, TallyRoom}
 use Rattle.copying.specs.Copying.{put_all, put_by, put_merged}
@@ -59,7 +54,7 @@ module _ (rest : List ℕ) where
   put_pieces Directive.Override old new r = both_lists true false (kept_from new 0 old 0) (kept_from old 0 new (production_total new)) r
   put_pieces Directive.Augment old new r = both_lists false true (kept_from old 0 new 0) (kept_from new 0 old (production_total old)) r
 
--- ---- The header and the set of types
+-- ---- The header
 
 -- the header of a merge, by its counts
 header_by : (old new : Table) (a b c d : ℕ)
@@ -67,18 +62,14 @@ header_by : (old new : Table) (a b c d : ℕ)
     → b ≡ length (all_events (merged_table old new).productions)
     → c ≡ length (all_calls (merged_table old new).productions)
     → d ≡ length (all_parameters (all_calls (merged_table old new).productions))
-    → with_types (with_header (body_of (merged_table old new).productions) (directive_word Directive.Replace ∷ flag 1 true ∷ old.first_length ∷ new.first_length ∷ a ∷ b ∷ c ∷ d ∷ [])) (type_words (type_set (merged_table old new).productions))
+    → with_header (body_of (merged_table old new).productions) (directive_word Directive.Replace ∷ flag 1 true ∷ old.first_length ∷ new.first_length ∷ a ∷ b ∷ c ∷ d ∷ [])
     ≡ entries_of (merged_table old new)
 unfolding entries_of header_of body_of merged_table
 header_by old new a b c d e f g h = rw (e, f, g, h)
 
-bare_body : (ps : List Production) → with_types (with_header (body_of ps) []) [] ≡ body_of ps
+bare_body : (ps : List Production) → with_header (body_of ps) [] ≡ body_of ps
 unfolding body_of
 bare_body ps = refl
-
-body_events : (ps : List Production) → (body_of ps).events ≡ all_events ps
-unfolding body_of
-body_events ps = refl
 
 module _ (old new : List ℕ) (wo : whole old ≡ true) (wn : whole new ≡ true) (mo : (decode old).merged ≡ false) (mn : (decode new).merged ≡ false) (limit : merge_passes_limit (decode old) (decode new) ≡ false) where
   abbrev M : Table
@@ -127,8 +118,7 @@ module _ (old new : List ℕ) (wo : whole old ≡ true) (wn : whole new ≡ true
       let c : t.calls ≡ length (all_calls ps) = ap (λ (u : Tally). u.calls) tally_there ∙ sums.calls ∙ zero-add _ in
       let d : t.parameters ≡ length (all_parameters (all_calls ps)) = ap (λ (u : Tally). u.parameters) tally_there ∙ sums.parameters ∙ zero-add _ in
       let r = body_room ps (subst (λ (u : Tally). TallyRoom u) tally_there room) in
-      let last : List ℕ → List ℕ = λ l. put_last l (gathered l t.events) Directive.Replace true (first_length_in old) (first_length_in new) t.productions t.events t.calls t.parameters in
-      ap last
+      ap (λ (l : List ℕ). put_counts (put_texts l Directive.Replace true (first_length_in old) (first_length_in new)) t.productions t.events t.calls t.parameters)
       (ap (λ (l : List ℕ). put_by (directive_in new) old new l) (cleared_holds out) ∙ body_there rest ∙ ap (λ (x : Entries). image x ++ rest) (sym (bare_body ps)))
-      ∙ put_last (body_of ps) rest r ps (body_events ps) (fit_facts M result_fits).events Directive.Replace true (first_length_in old) (first_length_in new) t.productions t.events t.calls t.parameters b
+      ∙ put_header_lem (body_of ps) rest r Directive.Replace true (first_length_in old) (first_length_in new) t.productions t.events t.calls t.parameters
       ∙ rw (lengths_there.0, lengths_there.1) (ap (λ (x : Entries). image x ++ rest) (header_by (decode old) (decode new) t.productions t.events t.calls t.parameters a b c d))

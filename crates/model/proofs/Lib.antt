@@ -3,4 +3,3 @@ pub mod Sameness
 pub mod Tested
 pub mod Named
 pub mod Moving
-pub mod Typed

@@ -22,7 +22,6 @@ pub mod Keyboard
 pub mod Records
 pub mod Selection
 pub mod Matching
-pub mod Types
 pub mod Merging
 pub mod Asking
 pub mod Canonical
@@ -31,4 +30,3 @@ pub mod Examples
 pub mod TestedExamples
 pub mod NamedExamples
 pub mod MotionExamples
-pub mod TypeExamples

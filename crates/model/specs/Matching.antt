@@ -61,15 +61,11 @@ is_whole_sequence setting xs p = eqb (length xs) (length (sequence p)) && reads_
 unfoldable pub has_type : ℕ → Production → Bool
 has_type code p = any (λ el. eqb el.code code) (sequence p)
 
--- some production has it
-abbrev pub names_type : List Production → ℕ → Bool
-names_type ps code = any (has_type code) ps
-
 -- what the rules of selection ask of a table under a setting
 abbrev pub reading_of : Table → Setting → Reading Event
 reading_of t setting =
     record {
-      known = λ x. names_type t.productions x.code;
+      known = λ x. any (has_type x.code) t.productions;
       prefix = λ xs. any (reads_as_prefix setting xs) t.productions;
       chosen = λ xs. earliest (is_whole_sequence setting xs) 0 t.productions;
       motion = λ x. is_motion x.code;

@@ -1,6 +1,6 @@
 -- Document 01, "Modifier tests": the bits, which of them a written list and an added modifier ask set or clear, when a state
 -- meets that and when none can. The test of a kept event is in Asked, the bits that a table tests are in Matching.
-use Rattle.std.specs.Prelude.{ℕ, zero, suc, ◌+◌, ◌/◌, ◌%◌, ◌^◌, Bool, true, false, cond, not, ◌&&◌, ◌||◌, List, [], ◌∷◌, eqb, ltb}
+use Rattle.std.specs.Prelude.{ℕ, ◌+◌, ◌/◌, ◌%◌, ◌^◌, Bool, true, false, cond, not, ◌&&◌, ◌||◌, List, [], ◌∷◌, eqb, ltb}
 use Rattle.model.specs.Lists.{any, all}
 use Rattle.model.specs.Names.{modifier_named}
 use Rattle.model.specs.Events.{Modifier, name, keysym, ModifierList, listed, no_modifier, any_modifier}
@@ -30,11 +30,6 @@ bit_if b k = cond b (2 ^ k) 0
 abbrev pub sum_bits : (ℕ → Bool) → List ℕ → ℕ
 sum_bits test [] = 0
 sum_bits test (k ∷ ks) = bit_if (test k) k + sum_bits test ks
-
--- the mask of the bits below a number that pass the test
-unfoldable pub mask_below : ℕ → (ℕ → Bool) → ℕ
-mask_below zero test = 0
-mask_below (suc k) test = mask_below k test + bit_if (test k) k
 
 -- the mask of the bits that pass the test
 unfoldable pub mask : (ℕ → Bool) → ℕ

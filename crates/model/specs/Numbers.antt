@@ -5,7 +5,6 @@ use Rattle.model.specs.declared.answers.Compiled.{Compiled}
 use Rattle.model.specs.declared.answers.Merged.{Merged}
 use Rattle.model.specs.declared.answers.Written.{Written}
 use Rattle.model.specs.declared.answers.Counted.{Counted}
-use Rattle.model.specs.declared.answers.NamedTypes.{NamedTypes}
 use Rattle.model.specs.declared.answers.Located.{Located}
 use Rattle.model.specs.declared.answers.RecordRead.{RecordRead}
 use Rattle.model.specs.declared.answers.Matched.{Matched}
@@ -62,8 +61,7 @@ not_built = 10
 abbrev pub past_limit : ℕ
 past_limit = 11
 
--- 12: table not whole: an entry outside its range, an unused word not 0, a span outside its text; R-5: a set of types that
--- differs from what the scan gives
+-- 12: table not whole: an entry outside its range, an unused word not 0, a span outside its text
 abbrev pub table_not_whole : ℕ
 table_not_whole = 12
 
@@ -204,14 +202,6 @@ counted_number (Counted.Refused n) = n
 abbrev pub counted_count : Counted → ℕ
 counted_count (Counted.Accepted k) = k
 counted_count (Counted.Refused n) = 0
-
-abbrev pub types_number : NamedTypes → ℕ
-types_number (NamedTypes.Accepted set) = no_refusal
-types_number (NamedTypes.Refused n) = n
-
-abbrev pub types_mask : NamedTypes → ℕ
-types_mask (NamedTypes.Accepted set) = set
-types_mask (NamedTypes.Refused n) = 0
 
 abbrev pub located_number : Located → ℕ
 located_number (Located.First start len) = no_refusal

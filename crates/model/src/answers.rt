@@ -38,13 +38,6 @@ pub enum Counted {
     Refused(u8),
 }
 
-// The event types that a table names, as a mask: bit c stands for code c.
-#[derive(Drop)]
-pub enum NamedTypes {
-    Accepted(u64),
-    Refused(u8),
-}
-
 // Where a call's name or a parameter stands, in the first text or in the second.
 #[derive(Drop)]
 pub enum Located {

@@ -1,5 +1,4 @@
--- Masks, of any number of bits and of 13: the bits of the mask of a test are the test's, it is below 8192, and bits determine a
--- mask.
+-- Masks of 13 bits: the bits of the mask of a test are the test's, it is below 8192, and bits determine a mask.
 -- Each law is proved over the number of bits, by halving.
 use Prim.Native.Nat.{ℕ, zero, suc, ◌+◌, ◌-◌, ◌*◌, ◌/◌, ◌%◌, ◌^◌, ◌<◌, zero-le, suc-le-suc}
 use native.Mathlib.Omega.{arith}
@@ -8,7 +7,7 @@ use mathlib.Core.Path.{◌≡◌, refl, sym, ap, ap₂, ◌∙◌}
 use mathlib.Core.Bool.{Bool, true, false, not, ◌&&◌, ◌||◌}
 use lib.Dec.{eqb}
 use lib.Bits.{bit_and, bit_or, and_lt, or_lt}
-use Rattle.model.specs.Modifiers.{bit, bit_if, mask_below, mask}
+use Rattle.model.specs.Modifiers.{bit, bit_if, mask}
 use Rattle.modifiers.proofs.Digits.{digit, bit_zero, bit_suc, bit_and_lem, bit_or_lem}
 
 -- the number whose n lowest bits are the test's, lowest first
@@ -33,7 +32,7 @@ digit_tested true = refl
 digit_tested false = refl
 
 -- the digit that stands for a number's lowest bit
-pub digit_odd : (m : ℕ) → digit (eqb (m % 2) 1) ≡ m % 2
+digit_odd : (m : ℕ) → digit (eqb (m % 2) 1) ≡ m % 2
 digit_odd m = go (m % 2) (omega arith)
   where
     go : (d : ℕ) → d < 2 → digit (eqb d 1) ≡ d
@@ -93,28 +92,6 @@ number_not : (n : ℕ) (f : ℕ → Bool) → number n (λ k. not (f k)) + numbe
 unfolding number
 number_not zero f = refl
 number_not (suc n) f = omega (arith, pow-suc 2 n, digit_not (f 0), number_not n (λ k. f (suc k)))
-
--- ---- The laws of `maskBelow`
-
-double_bit : (b : Bool) (k : ℕ) → 2 * bit_if b k ≡ bit_if b (suc k)
-double_bit true k = omega (arith, pow-suc 2 k)
-double_bit false k = refl
-
-number_top : (n : ℕ) (f : ℕ → Bool) → number (suc n) f ≡ number n f + bit_if (f n) n
-unfolding number
-number_top zero f = omega (arith, digit_scaled (f 0) 0)
-number_top (suc n) f = omega (arith, number_top n (λ k. f (suc k)), double_bit (f (suc n)) n)
-
-below_number : (n : ℕ) (f : ℕ → Bool) → mask_below n f ≡ number n f
-unfolding mask_below number
-below_number zero f = refl
-below_number (suc n) f = omega (arith, below_number n f, number_top n f)
-
-pub mask_below_lt : (n : ℕ) (f : ℕ → Bool) → mask_below n f < 2 ^ n
-mask_below_lt n f = rw below_number (number_below n f)
-
-pub bit_mask_below : (n : ℕ) (f : ℕ → Bool) (k : ℕ) → k < n → bit k (mask_below n f) ≡ f k
-bit_mask_below n f k h = ap (bit k) (below_number n f) ∙ bit_of_number n f k h
 
 -- ---- The laws of `mask`
 

@@ -13,10 +13,8 @@ use Rattle.words.specs.Runs.{total, every}
 use Rattle.words.proofs.Bools.{chain_parts}
 use Rattle.words.proofs.RunLaws.{every_at, total_part}
 use Rattle.tables.specs.Layout.{capacities, production_events_at, production_calls_at, call_parameters_at, table_length}
-use Rattle.tables.specs.Reading.{types_in}
-use Rattle.types.specs.Scan.{gathered}
 use Rattle.header_check.specs.Header.{header_ok}
-use Rattle.table_check.specs.Checks.{sums_ok, entries_ok, types_ok, checks}
+use Rattle.table_check.specs.Checks.{sums_ok, entries_ok, checks}
 use Rattle.header_check.specs.Unused.{first_two_rest, last_two_rest, unused_ok}
 use Rattle.event_check.specs.Events.{event_ok}
 use Rattle.keysym_check.specs.Slots.{keysyms_ok, slots_ok}
@@ -76,17 +74,16 @@ pub record CheckFacts (l : List ℕ) : Type 0 where
   pub parameters : (i : ℕ) → i < word_at l 6 → parameters_ok l i ≡ true
   pub productions : (i : ℕ) → i < word_at l 4 → ProductionWordFacts l i
   pub sizes : total (size_at l) 0 (word_at l 5) ≤ 256
-  pub types : types_in l ≡ gathered l (word_at l 5)
 
 pub check_facts : (l : List ℕ) → checks l ≡ true → CheckFacts l
-unfolding checks entries_ok slots_ok types_ok
+unfolding checks entries_ok slots_ok
 check_facts l e =
-    let a = cond_no (ltb (length l) table_length) (cond (header_ok l) (cond (sums_ok l) (unused_ok l && slots_ok l (word_at l 5) && types_ok l && entries_ok l) false) false) e in
-    let h = cond_yes (header_ok l) (cond (sums_ok l) (unused_ok l && slots_ok l (word_at l 5) && types_ok l && entries_ok l) false) a.1 in
-    let s = cond_yes (sums_ok l) (unused_ok l && slots_ok l (word_at l 5) && types_ok l && entries_ok l) h.1 in
-    let u = chain_parts (unused_ok l) (slots_ok l (word_at l 5) ∷ types_ok l ∷ entries_ok l ∷ []) s.1 in
+    let a = cond_no (ltb (length l) table_length) (cond (header_ok l) (cond (sums_ok l) (unused_ok l && slots_ok l (word_at l 5) && entries_ok l) false) false) e in
+    let h = cond_yes (header_ok l) (cond (sums_ok l) (unused_ok l && slots_ok l (word_at l 5) && entries_ok l) false) a.1 in
+    let s = cond_yes (sums_ok l) (unused_ok l && slots_ok l (word_at l 5) && entries_ok l) h.1 in
+    let u = chain_parts (unused_ok l) (slots_ok l (word_at l 5) ∷ entries_ok l ∷ []) s.1 in
     let k = chain_parts (every (keysyms_ok l) 0 (word_at l 5)) (first_two_rest l (word_at l 5) ∷ last_two_rest l (word_at l 5) ∷ []) u.1.0 in
-    let r = chain_parts (every (event_ok l) 0 (word_at l 5)) (every (call_ok l) 0 (word_at l 6) ∷ every (parameters_ok l) 0 (word_at l 6) ∷ every (production_ok l) 0 (word_at l 4) ∷ leb (total (size_at l) 0 (word_at l 5)) 256 ∷ []) u.1.1.1.0 in
+    let r = chain_parts (every (event_ok l) 0 (word_at l 5)) (every (call_ok l) 0 (word_at l 6) ∷ every (parameters_ok l) 0 (word_at l 6) ∷ every (production_ok l) 0 (word_at l 4) ∷ leb (total (size_at l) 0 (word_at l 5)) 256 ∷ []) u.1.1.0 in
     record {
       long = ltb-false (length l) table_length a.0;
       header = header_facts l h.0;
@@ -98,7 +95,6 @@ check_facts l e =
       parameters = λ i q. rw zero-add at (every_at (parameters_ok l) 0 (word_at l 6) i r.1.1.0 q);
       productions = λ i q. production_word_facts l i (rw zero-add at (every_at (production_ok l) 0 (word_at l 4) i r.1.1.1.0 q));
       sizes = leb-true (total (size_at l) 0 (word_at l 5)) 256 r.1.1.1.1.0;
-      types = eqb-true (types_in l) (gathered l (word_at l 5)) u.1.1.0;
     }
 
 -- a production's events, a production's calls and a call's parameters are among all

@@ -16,17 +16,14 @@ use Rattle.model.specs.Lists.{in_all}
 use Rattle.model.specs.Counts.{sequence}
 use Rattle.model.specs.Compiling.{production_passes}
 use Rattle.model.specs.Tables.{Call, Production, Table}
-use Rattle.model.specs.Types.{type_set}
 use Rattle.model.specs.declared.scan.Span.{Span}
 use Rattle.model.specs.declared.events.KeptEvent.{KeptEvent}
 use Rattle.model.specs.declared.events.Directive.{Directive}
 use Rattle.tables.specs.Layout.{flag, flags_word, low_word, high_word, mark_word, directive_word, all_events, all_calls, all_parameters, encode, table_length}
 use Rattle.tables.specs.Layout.{production_events_at, production_calls_at, codes_at, counts_at, sets_at, clears_at, flags_at, lows_at, highs_at, first_lows_at, first_highs_at, second_lows_at, second_highs_at, third_lows_at, third_highs_at, fourth_lows_at, fourth_highs_at, marks_at, name_starts_at, name_lengths_at, call_parameters_at, parameter_starts_at, parameter_lengths_at}
 use Rattle.tables.specs.Fitting.{event_in_range, span_in_text, text_length, call_in_range, has_event, fitting}
-use Rattle.types.specs.Scan.{gathered}
-use Rattle.types.proofs.Gathered.{gathered_types}
 use Rattle.header_check.specs.Header.{text_words_ok, count_words_ok, header_ok}
-use Rattle.table_check.specs.Checks.{sums_ok, entries_ok, types_ok, checks}
+use Rattle.table_check.specs.Checks.{sums_ok, entries_ok, checks}
 use Rattle.header_check.specs.Unused.{rest_zero, productions_rest, tests_rest, details_rest, first_two_rest, last_two_rest, calls_rest, parameters_rest, unused_ok}
 use Rattle.event_check.specs.Events.{event_ok}
 use Rattle.keysym_check.specs.Slots.{keysyms_ok, slots_ok}
@@ -38,8 +35,7 @@ use Rattle.event_check.proofs.EventTests.{range_words}
 use Rattle.tables.proofs.Sizes.{event_size, length_expanded}
 use Rattle.tables.proofs.Facts.{CallFacts, call_facts, ProductionFacts, production_facts, events_in_all_lem, calls_in_all_lem, parameters_in_all_lem, few_parameters_lem}
 use Rattle.tables.proofs.Encoded as enc
-use Rattle.tables.proofs.EventRows.{no_event}
-use Rattle.tables.proofs.Encoded.{no_span, no_call, no_production}
+use Rattle.tables.proofs.Encoded.{no_event, no_span, no_call, no_production}
 use Rattle.tables.proofs.Theorems.{length_encode}
 
 directive_small : (d : Directive) → leb (directive_word d) 2 ≡ true
@@ -385,15 +381,8 @@ module _ (t : Table) (fit : fitting t ≡ true) (rest : List ℕ) where
         ),
       ))
 
-  types_ok_lem : types_ok l ≡ true
-  unfolding types_ok
-  types_ok_lem =
-      rw (enc.events_word t fit rest, enc.types_read t fit rest)
-      (eq-eqb (type_set ps) (gathered l (length es))
-      (sym (gathered_types l ps (enc.fits t fit rest).events (λ i h. enc.code_word_lem t fit rest i (events_below i h)) (λ i h. enc.count_word t fit rest i (events_below i h)))))
-
   pub checks_encode : checks (encode t ++ rest) ≡ true
   unfolding checks
   checks_encode =
       let b : table_length ≤ length l = omega (arith, length-append (encode t) rest, length_encode t fit) in
-      rw (le-ltb (length l) table_length b, header_ok_lem, sums_ok_lem) (chain_all (unused_ok l) (slots_ok l (word_at l 5) ∷ types_ok l ∷ entries_ok l ∷ []) (unused_ok_lem, (slots_ok_lem, (types_ok_lem, (entries_ok_lem, tt)))))
+      rw (le-ltb (length l) table_length b, header_ok_lem, sums_ok_lem) (chain_all (unused_ok l) (slots_ok l (word_at l 5) ∷ entries_ok l ∷ []) (unused_ok_lem, (slots_ok_lem, (entries_ok_lem, tt))))

@@ -12,20 +12,17 @@ use Rattle.words.specs.Words.{word_at, word_bytes, zeros}
 use Rattle.words.specs.Runs.{run, total, every, is_zero}
 use Rattle.words.proofs.Images.{word_below, bytes_run}
 use Rattle.words.proofs.Laws.{length_zeros, get_d_zeros}
-use Rattle.words.proofs.RunLaws.{total_same, every_at, run_append, run_list, run_same, map_run, length_run, get_d_run}
+use Rattle.words.proofs.RunLaws.{total_same, every_at, run_append, run_list, run_same, map_run, length_run}
 use Rattle.model.specs.Lists.{all, in_all}
 use Rattle.model.specs.Counts.{sequence}
 use Rattle.model.specs.Compiling.{production_passes, passes_limit}
 use Rattle.model.specs.Tables.{Call, Production, Table}
-use Rattle.model.specs.Types.{type_set}
 use Rattle.model.specs.declared.scan.Span.{Span}
 use Rattle.model.specs.declared.events.KeptEvent.{KeptEvent}
-use Rattle.tables.specs.Layout.{columns, for_each, event_fields, call_fields, parameter_fields, flag, directive_word, type_words, all_events, all_calls, all_parameters, padded, joined_sections, offset, capacities, header_of, entries_of, sections_of, image, encode, table_length}
-use Rattle.tables.specs.Layout.{production_events_at, production_calls_at, codes_at, counts_at, sets_at, clears_at, flags_at, lows_at, highs_at, first_lows_at, first_highs_at, second_lows_at, second_highs_at, third_lows_at, third_highs_at, fourth_lows_at, fourth_highs_at, marks_at, call_parameters_at, parameter_starts_at, types_at}
-use Rattle.tables.specs.Reading.{directive_from_word, directive_in, merged_in, first_length_in, second_length_in, production_total, types_in, parameter_entry, mark_entry, name_entry, call_parameters, first_parameter, call_entry, keysyms_entry, event_entry, production_events, production_calls, first_event, first_call, production_entry, decode}
+use Rattle.tables.specs.Layout.{columns, for_each, event_fields, call_fields, parameter_fields, flag, directive_word, all_events, all_calls, all_parameters, padded, joined_sections, offset, capacities, header_of, entries_of, sections_of, image, encode, table_length}
+use Rattle.tables.specs.Layout.{production_events_at, production_calls_at, codes_at, counts_at, sets_at, clears_at, flags_at, lows_at, highs_at, first_lows_at, first_highs_at, second_lows_at, second_highs_at, third_lows_at, third_highs_at, fourth_lows_at, fourth_highs_at, marks_at, call_parameters_at, parameter_starts_at}
+use Rattle.tables.specs.Reading.{directive_from_word, directive_in, merged_in, first_length_in, second_length_in, production_total, parameter_entry, mark_entry, name_entry, call_parameters, first_parameter, call_entry, keysyms_entry, event_entry, production_events, production_calls, first_event, first_call, production_entry, decode}
 use Rattle.tables.specs.Fitting.{event_in_range, span_in_text, call_in_range, texts_in_range, has_event, fitting}
-use Rattle.types.specs.Scan.{gathered}
-use Rattle.types.proofs.Gathered.{gathered_types}
 use Rattle.header_check.specs.Unused.{rest_zero}
 use Rattle.event_check.specs.Events.{event_ok}
 use Rattle.keysym_check.specs.Slots.{keysyms_ok}
@@ -33,7 +30,6 @@ use Rattle.span_check.specs.Spans.{length_of_text, parameter_ok, parameters_ok}
 use Rattle.sequence_check.specs.Sequences.{size_at}
 use Rattle.tables.proofs.Lists.{all_run, flat_runs, length_flat, in_all_flat, in_all_le, in_all_run}
 use Rattle.event_check.proofs.EventTests.{low_half, high_half, keysym_words, words_range, words_back, code_back, count_back}
-use Rattle.tables.proofs.EventRows.{no_event}
 use Rattle.tables.proofs.Sizes.{event_size, length_expanded}
 use Rattle.tables.proofs.Facts.{facts_fit, facts_text, facts_call, facts_production, facts_limit}
 use Rattle.table_check.proofs.CheckFacts.{CheckFacts, events_within_lem, calls_within_lem}
@@ -131,12 +127,6 @@ module _ (l : List ℕ) (bytes : (i : ℕ) → get_or l i 0 < 256) (facts : Chec
       ∙ flat_runs (λ (c : Call). c.parameters) (call_entry l) (parameter_entry l) (word_at l) call_parameters_at (word_at l 6) (λ p. refl)
       ∙ ap (run (parameter_entry l) 0) facts.sums.parameters
 
-  event_below : (i : ℕ) → i < length (all_events (decode l).productions) → i < word_at l 5
-  event_below i h = omega (arith, ap length events_flat, length_run (event_entry l) 0 (word_at l 5))
-
-  event_there : (i : ℕ) → i < word_at l 5 → get_or (all_events (decode l).productions) i no_event ≡ event_entry l i
-  event_there i h = rw events_flat (get_d_run (event_entry l) 0 (word_at l 5) i no_event h ∙ ap (event_entry l) (zero-add i))
-
   -- ---- Their words
 
   production_events_lem : map (λ (p : Production). length p.events) (decode l).productions ≡ run (word_at l) production_events_at (word_at l 4)
@@ -195,6 +185,26 @@ module _ (l : List ℕ) (bytes : (i : ℕ) → get_or l i 0 < 256) (facts : Chec
       (consed (ap length calls_flat ∙ length_run (call_entry l) 0 (word_at l 6))
       (consed (ap length parameters_flat ∙ length_run (parameter_entry l) 0 (word_at l 7)) refl)))))))
 
+  sections_runs : sections_of (entries_of (decode l)) ≡ runs l capacities (used l) 0
+  unfolding sections_of entries_of columns reach
+  sections_runs =
+      consed header_run
+      (consed production_events_lem
+      (consed production_calls_lem
+      (ap (λ (es : List KeptEvent). columns event_fields es ++ (columns call_fields (all_calls (decode l).productions) ++ columns parameter_fields (all_parameters (all_calls (decode l).productions)))) events_flat
+      ∙ ap (λ (cs : List Call). columns event_fields (run (event_entry l) 0 (word_at l 5)) ++ (columns call_fields cs ++ columns parameter_fields (all_parameters (all_calls (decode l).productions)))) calls_flat
+      ∙ ap (λ (rs : List Span). columns event_fields (run (event_entry l) 0 (word_at l 5)) ++ (columns call_fields (run (call_entry l) 0 (word_at l 6)) ++ columns parameter_fields rs)) parameters_flat
+      ∙ columns_runs l 256 (event_entry l) (word_at l 5) event_fields codes_at marks_at (for_each call_fields 128 ++ for_each parameter_fields 256) (for_each call_fields (word_at l 6) ++ for_each parameter_fields (word_at l 7)) (columns call_fields (run (call_entry l) 0 (word_at l 6)) ++ columns parameter_fields (run (parameter_entry l) 0 (word_at l 7))) refl event_back
+      (columns_runs l 128 (call_entry l) (word_at l 6) call_fields marks_at parameter_starts_at (for_each parameter_fields 256) (for_each parameter_fields (word_at l 7)) (columns parameter_fields (run (parameter_entry l) 0 (word_at l 7))) refl call_back
+      (columns_runs l 256 (parameter_entry l) (word_at l 7) parameter_fields parameter_starts_at 5000 [] [] [] refl parameter_back refl)))))
+
+  -- the bytes are those of the table
+  pub bytes_same : take table_length l ≡ encode (decode l)
+  unfolding encode image
+  bytes_same =
+      bytes_run l 0 5000 bytes facts.long
+      ∙ sym (ap (λ (ss : List (List ℕ)). word_bytes (joined_sections capacities ss)) sections_runs ∙ ap word_bytes (joined_runs l capacities (used l) 0 facts.rests))
+
   -- ---- The table fits
 
   texts_fit : texts_in_range (decode l) ≡ true
@@ -227,61 +237,6 @@ module _ (l : List ℕ) (bytes : (i : ℕ) → get_or l i 0 < 256) (facts : Chec
 
   events_fit : all event_in_range (all_events (decode l).productions) ≡ true
   events_fit = rw events_flat (all_run event_in_range (event_entry l) 0 (word_at l 5) (λ i h. rw zero-add (event_range i h)))
-
-  -- ---- The bytes are those of the table
-
-  code_at : (i : ℕ) → i < length (all_events (decode l).productions) → word_at l (codes_at + i) ≡ (get_or (all_events (decode l).productions) i no_event).code
-  unfolding event_entry event_ok
-  code_at i h =
-      let q : i < word_at l 5 = event_below i h in
-      sym (ap (λ (e : KeptEvent). e.code) (event_there i q)
-      ∙ code_back (word_at l (codes_at + i)) (word_at l (counts_at + i)) (word_at l (sets_at + i)) (word_at l (clears_at + i)) (word_at l (flags_at + i)) (word_at l (lows_at + i)) (word_at l (highs_at + i)) (keysyms_entry l i) (facts.events i q) (word_below l bytes (flags_at + i)) (word_below l bytes (lows_at + i)))
-
-  count_at : (i : ℕ) → i < length (all_events (decode l).productions) → word_at l (counts_at + i) ≡ (get_or (all_events (decode l).productions) i no_event).count
-  unfolding event_entry event_ok
-  count_at i h =
-      let q : i < word_at l 5 = event_below i h in
-      sym (ap (λ (e : KeptEvent). e.count) (event_there i q)
-      ∙ count_back (word_at l (codes_at + i)) (word_at l (counts_at + i)) (word_at l (sets_at + i)) (word_at l (clears_at + i)) (word_at l (flags_at + i)) (word_at l (lows_at + i)) (word_at l (highs_at + i)) (keysyms_entry l i) (facts.events i q) (word_below l bytes (flags_at + i)) (word_below l bytes (lows_at + i)))
-
-  -- the set is what the events give
-  types_are : types_in l ≡ type_set (decode l).productions
-  types_are =
-      facts.types
-      ∙ ap (gathered l) (sym (ap length events_flat ∙ length_run (event_entry l) 0 (word_at l 5)))
-      ∙ gathered_types l (decode l).productions events_fit code_at count_at
-
-  types_run : type_words (type_set (decode l).productions) ≡ run (word_at l) types_at 3
-  unfolding types_in run
-  types_run =
-      let a = word_below l bytes types_at in
-      let b = word_below l bytes (types_at + 1) in
-      let c = word_below l bytes (types_at + 2) in
-      ap type_words (sym types_are) ∙ consed (omega arith) (consed (omega arith) (consed (omega arith) refl))
-
-  abbrev types : List ℕ
-  types = type_words (type_set (decode l).productions)
-
-  sections_runs : sections_of (entries_of (decode l)) ≡ runs l capacities (used l) 0
-  unfolding sections_of entries_of columns reach
-  sections_runs =
-      consed header_run
-      (consed production_events_lem
-      (consed production_calls_lem
-      (ap (λ (es : List KeptEvent). columns event_fields es ++ (columns call_fields (all_calls (decode l).productions) ++ (columns parameter_fields (all_parameters (all_calls (decode l).productions)) ++ (types ∷ [])))) events_flat
-      ∙ ap (λ (cs : List Call). columns event_fields (run (event_entry l) 0 (word_at l 5)) ++ (columns call_fields cs ++ (columns parameter_fields (all_parameters (all_calls (decode l).productions)) ++ (types ∷ [])))) calls_flat
-      ∙ ap (λ (rs : List Span). columns event_fields (run (event_entry l) 0 (word_at l 5)) ++ (columns call_fields (run (call_entry l) 0 (word_at l 6)) ++ (columns parameter_fields rs ++ (types ∷ [])))) parameters_flat
-      ∙ columns_runs l 256 (event_entry l) (word_at l 5) event_fields codes_at marks_at (for_each call_fields 128 ++ (for_each parameter_fields 256 ++ (3 ∷ []))) (for_each call_fields (word_at l 6) ++ (for_each parameter_fields (word_at l 7) ++ (3 ∷ []))) (columns call_fields (run (call_entry l) 0 (word_at l 6)) ++ (columns parameter_fields (run (parameter_entry l) 0 (word_at l 7)) ++ (types ∷ []))) refl event_back
-      (columns_runs l 128 (call_entry l) (word_at l 6) call_fields marks_at parameter_starts_at (for_each parameter_fields 256 ++ (3 ∷ [])) (for_each parameter_fields (word_at l 7) ++ (3 ∷ [])) (columns parameter_fields (run (parameter_entry l) 0 (word_at l 7)) ++ (types ∷ [])) refl call_back
-      (columns_runs l 256 (parameter_entry l) (word_at l 7) parameter_fields parameter_starts_at types_at (3 ∷ []) (3 ∷ []) (types ∷ []) refl parameter_back (consed types_run refl))))))
-
-  pub bytes_same : take table_length l ≡ encode (decode l)
-  unfolding encode image
-  bytes_same =
-      bytes_run l 0 5003 bytes facts.long
-      ∙ sym (ap (λ (ss : List (List ℕ)). word_bytes (joined_sections capacities ss)) sections_runs ∙ ap word_bytes (joined_runs l capacities (used l) 0 facts.rests))
-
-  -- ---- Calls and parameters
 
   parameter_fits : (i k : ℕ) → i < word_at l 6 → k < call_parameters l i
       → span_in_text (length_of_text (word_at l (marks_at + i)) (word_at l 2) (word_at l 3)) (parameter_entry l (first_parameter l i + k)) ≡ true

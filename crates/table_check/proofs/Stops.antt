@@ -8,7 +8,7 @@ use lib.ListN.{length}
 use borrow.Author.Tests.{lt-ltb, le-ltb}
 use Rattle.tables.specs.Layout.{table_length, production_events_at, production_calls_at, call_parameters_at}
 use Rattle.header_check.specs.Header.{header_ok}
-use Rattle.table_check.specs.Checks.{sums_ok, entries_ok, types_ok, checks}
+use Rattle.table_check.specs.Checks.{sums_ok, entries_ok, checks}
 use Rattle.header_check.specs.Unused.{unused_ok}
 use Rattle.words.specs.Words.{word_at}
 use Rattle.words.specs.Runs.{every, total}
@@ -28,9 +28,9 @@ module _ (l : List ℕ) where
   unfolding checks
   checks_header h e = rw (le-ltb (length l) table_length h, e)
 
-  pub checks_last : table_length ≤ length l → header_ok l ≡ true → checks l ≡ (unused_ok l && slots_ok l (word_at l 5) && types_ok l && (sums_ok l && entries_ok l))
+  pub checks_last : table_length ≤ length l → header_ok l ≡ true → checks l ≡ (unused_ok l && slots_ok l (word_at l 5) && (sums_ok l && entries_ok l))
   unfolding checks
-  checks_last h e = rw (le-ltb (length l) table_length h, e) (go (sums_ok l) (unused_ok l && slots_ok l (word_at l 5) && types_ok l))
+  checks_last h e = rw (le-ltb (length l) table_length h, e) (go (sums_ok l) (unused_ok l && slots_ok l (word_at l 5)))
     where
       go : (s u : Bool) → cond s (u && entries_ok l) false ≡ (u && (s && entries_ok l))
       go true u = refl

@@ -3,8 +3,6 @@ use Rattle.std.specs.Prelude.{ℕ, Bool, false, cond, ◌&&◌, List, leb, ltb, 
 use Rattle.words.specs.Words.{word_at}
 use Rattle.words.specs.Runs.{every, total}
 use Rattle.tables.specs.Layout.{production_events_at, production_calls_at, call_parameters_at, table_length}
-use Rattle.tables.specs.Reading.{types_in}
-use Rattle.types.specs.Scan.{gathered}
 use Rattle.header_check.specs.Header.{header_ok}
 use Rattle.header_check.specs.Unused.{unused_ok}
 use Rattle.event_check.specs.Events.{event_ok}
@@ -26,11 +24,7 @@ entries_ok l =
     && every (production_ok l) 0 (word_at l 4)
     && leb (total (size_at l) 0 (word_at l 5)) 256
 
--- R-5: "12 also where it differs", the set that the table keeps from what its events give
-unfoldable pub types_ok : List ℕ → Bool
-types_ok l = eqb (types_in l) (gathered l (word_at l 5))
-
 unfoldable pub checks : List ℕ → Bool
 checks l =
     cond (ltb (length l) table_length) false
-    (cond (header_ok l) (cond (sums_ok l) (unused_ok l && slots_ok l (word_at l 5) && types_ok l && entries_ok l) false) false)
+    (cond (header_ok l) (cond (sums_ok l) (unused_ok l && slots_ok l (word_at l 5) && entries_ok l) false) false)

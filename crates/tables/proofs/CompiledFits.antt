@@ -1,7 +1,7 @@
 -- Every table that a text compiles to fits.
 use Prim.Native.Nat.{ℕ, zero, suc, ◌+◌, ◌-◌, ◌≤◌, ◌<◌}
 use native.Mathlib.Omega.{arith}
-use mathlib.Core.Path.{◌≡◌, refl, ap, subst}
+use mathlib.Core.Path.{◌≡◌, refl, ap}
 use mathlib.Core.List.{List, [], ◌∷◌, ◌++◌, map, append-nil}
 use mathlib.Core.Bool.{Bool, true, false, cond, not, ◌||◌}
 use mathlib.Core.Option.{Option, none, some}
@@ -246,12 +246,6 @@ bytes_fit : (text : List ℕ) (r : Option ℕ) → first_bad_byte text ≡ r →
 unfolding first_bad_byte lines_of
 bytes_fit text (some p) e h = tt
 bytes_fit text none e h = lines_fit text (none_bad text 0 e) h (length text + 1) 0 Directive.Replace [] (omega arith) (none_kept (length text))
-
--- the table that a text's lines give fits
-pub lines_table_fits : (text : List ℕ) (t : Table) → Small text → length text ≤ 8192 → lines_of text ≡ accepted t → fitting t ≡ true
-unfolding lines_of
-lines_table_fits text t small h e =
-    subst Fits e (lines_fit text small h (length text + 1) 0 Directive.Replace [] (omega arith) (none_kept (length text)))
 
 outcome_fits : (text : List ℕ) → Fits (compiled text)
 unfolding compiled

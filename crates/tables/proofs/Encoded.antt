@@ -1,9 +1,9 @@
 -- A table within limits and ranges, as bytes, reads as itself.
-use Prim.Native.Nat.{ℕ, zero, suc, ◌+◌, ◌*◌, ◌%◌, ◌/◌, ◌≤◌, ◌<◌}
+use Prim.Native.Nat.{ℕ, zero, suc, ◌+◌, ◌%◌, ◌/◌, ◌≤◌, ◌<◌}
 use native.Mathlib.Omega.{arith}
 use native.Mathlib.Nat.{zero-add}
 use mathlib.Core.Path.{◌≡◌, refl, sym, ap, ◌∙◌}
-use mathlib.Core.List.{List, [], ◌∷◌, ◌++◌, map}
+use mathlib.Core.List.{List, [], ◌++◌, map}
 use mathlib.Core.Bool.{Bool, true, false, not}
 use lib.Dec.{leb, eqb}
 use lib.ListN.{length, get_or, length-map, get_or-map}
@@ -14,26 +14,38 @@ use Rattle.words.proofs.RunLaws.{run_list, total_same}
 use Rattle.model.specs.Counts.{sequence}
 use Rattle.model.specs.Compiling.{production_passes}
 use Rattle.model.specs.Tables.{Call, Production, Table}
-use Rattle.model.specs.Matching.{names_type}
-use Rattle.model.specs.Types.{type_set}
+use Rattle.model.specs.Named.{no_keysyms}
 use Rattle.model.specs.declared.scan.Span.{Span}
+use Rattle.model.specs.declared.events.Detail.{Detail}
 use Rattle.model.specs.declared.events.KeptEvent.{KeptEvent}
 use Rattle.model.specs.declared.events.Directive.{Directive}
-use Rattle.modifiers.proofs.Masks.{mask_below_lt}
-use Rattle.tables.specs.Layout.{columns, for_each, event_fields, call_fields, parameter_fields, flag, flags_word, low_word, high_word, mark_word, directive_word, type_words, all_events, all_calls, all_parameters, header_of, entries_of, sections_of, offset, capacities, encode}
-use Rattle.tables.specs.Layout.{production_events_at, production_calls_at, codes_at, counts_at, sets_at, clears_at, flags_at, lows_at, highs_at, first_lows_at, first_highs_at, second_lows_at, second_highs_at, third_lows_at, third_highs_at, fourth_lows_at, fourth_highs_at, marks_at, name_starts_at, name_lengths_at, call_parameters_at, parameter_starts_at, parameter_lengths_at, types_at}
-use Rattle.tables.specs.Reading.{directive_from_word, directive_in, merged_in, first_length_in, second_length_in, production_total, types_in, parameter_entry, mark_entry, name_entry, call_parameters, first_parameter, call_entry, keysyms_entry, event_entry, production_events, production_calls, first_event, first_call, production_entry, decode}
-use Rattle.tables.specs.Fitting.{fitting}
+use Rattle.tables.specs.Layout.{columns, for_each, event_fields, call_fields, parameter_fields, flag, is_given, value_of, flags_word, low_word, high_word, mark_word, directive_word, all_events, all_calls, all_parameters, header_of, entries_of, sections_of, offset, capacities, encode}
+use Rattle.tables.specs.Layout.{production_events_at, production_calls_at, codes_at, counts_at, sets_at, clears_at, flags_at, lows_at, highs_at, first_lows_at, first_highs_at, second_lows_at, second_highs_at, third_lows_at, third_highs_at, fourth_lows_at, fourth_highs_at, marks_at, name_starts_at, name_lengths_at, call_parameters_at, parameter_starts_at, parameter_lengths_at}
+use Rattle.tables.specs.Reading.{directive_from_word, directive_in, merged_in, first_length_in, second_length_in, production_total, parameter_entry, mark_entry, name_entry, call_parameters, first_parameter, call_entry, keysyms_entry, event_entry, production_events, production_calls, first_event, first_call, production_entry, decode}
+use Rattle.tables.specs.Fitting.{event_in_range, fitting}
 use Rattle.tables.proofs.Lists.{each_get_d, nested}
-use Rattle.tables.proofs.EventWords.{flag_le, keysyms_back, event_back}
+use Rattle.tables.proofs.EventWords.{flag_le, RangeFacts, range_facts, KeysymFacts, keysym_facts, keysym_below, flags_below, keysyms_back, event_back}
 use Rattle.tables.proofs.Sizes.{length_expanded, length_le_size}
 use Rattle.tables.proofs.Facts.{FitFacts, fit_facts, TextFacts, text_facts, short_span, short_spans, short_names, short_facts, ProductionFacts, production_facts, LimitFacts, limit_facts, events_in_all_lem, calls_in_all_lem, parameters_in_all_lem, few_parameters_lem}
 use Rattle.tables.proofs.Columns.{spread, reach}
-use Rattle.tables.proofs.EventRows as rows
-use Rattle.tables.proofs.EventRows.{no_event, EventSmall}
-use Rattle.tables.proofs.Images.{Room, section_word, row_words, before_calls, before_parameters, calls_there, parameters_there, calls_start_lem, parameters_start}
+use Rattle.tables.proofs.Images.{Room, section_word, row_words, before_events, before_calls, before_parameters, events_there, calls_there, parameters_there, events_start, calls_start_lem, parameters_start}
 
 -- ---- What stands at an unused place
+
+abbrev pub no_event : KeptEvent
+no_event =
+    record {
+      code = 0;
+      set = 0;
+      clear = 0;
+      colon = false;
+      clause = false;
+      detail = Detail.Unspecified;
+      count = 0;
+      bang = false;
+      names = 0;
+      keysyms = no_keysyms;
+    }
 
 abbrev pub no_span : Span
 no_span = record { start = 0; len = 0 }
@@ -43,6 +55,71 @@ no_call = record { second = false; name = no_span; parameters = [] }
 
 abbrev pub no_production : Production
 no_production = record { events = []; calls = [] }
+
+-- ---- Fields fit a word
+
+pub record EventSmall (e : KeptEvent) : Type 0 where
+  pub code : e.code < 256
+  pub count : e.count < 256
+  pub set : e.set < 8192
+  pub clear : e.clear < 8192
+  pub value : value_of e.detail ≤ 0x1FFFFFFF
+  pub names : e.names < 256
+  pub first : e.keysyms.first < 0x80000000
+  pub second : e.keysyms.second < 0x80000000
+  pub third : e.keysyms.third < 0x80000000
+  pub fourth : e.keysyms.fourth < 0x80000000
+
+none_small : EventSmall no_event
+none_small =
+    record {
+      code = omega arith;
+      count = omega arith;
+      set = omega arith;
+      clear = omega arith;
+      value = omega arith;
+      names = omega arith;
+      first = omega arith;
+      second = omega arith;
+      third = omega arith;
+      fourth = omega arith;
+    }
+
+pub event_small : (e : KeptEvent) → event_in_range e ≡ true → EventSmall e
+event_small e h =
+    let r : RangeFacts e = range_facts e h in
+    let k : KeysymFacts e.keysyms = keysym_facts e.keysyms r.keysyms in
+    record {
+      code = omega arith;
+      count = omega arith;
+      set = r.set_below;
+      clear = r.clear_below;
+      value = r.detail;
+      names = r.names_below;
+      first = keysym_below e.keysyms.first k.first;
+      second = keysym_below e.keysyms.second k.second;
+      third = keysym_below e.keysyms.third k.third;
+      fourth = keysym_below e.keysyms.fourth k.fourth;
+    }
+
+-- each field of an event
+fields_small : (e : KeptEvent) → EventSmall e → (k : ℕ) → get_or (map (λ (f : KeptEvent → ℕ). f e) event_fields) k 0 < 65536
+fields_small e s zero = let b = s.code in omega arith
+fields_small e s (suc zero) = let b = s.count in omega arith
+fields_small e s (suc (suc zero)) = let b = s.set in omega arith
+fields_small e s (suc (suc (suc zero))) = let b = s.clear in omega arith
+fields_small e s (suc (suc (suc (suc zero)))) = let b = flags_below e.colon e.clause (is_given e.detail) e.bang in let n = s.names in omega arith
+fields_small e s (suc (suc (suc (suc (suc zero))))) = omega arith
+fields_small e s (suc (suc (suc (suc (suc (suc zero)))))) = let b = s.value in omega arith
+fields_small e s (suc (suc (suc (suc (suc (suc (suc zero))))))) = omega arith
+fields_small e s (suc (suc (suc (suc (suc (suc (suc (suc zero)))))))) = let b = s.first in omega arith
+fields_small e s (suc (suc (suc (suc (suc (suc (suc (suc (suc zero))))))))) = omega arith
+fields_small e s (suc (suc (suc (suc (suc (suc (suc (suc (suc (suc zero)))))))))) = let b = s.second in omega arith
+fields_small e s (suc (suc (suc (suc (suc (suc (suc (suc (suc (suc (suc zero))))))))))) = omega arith
+fields_small e s (suc (suc (suc (suc (suc (suc (suc (suc (suc (suc (suc (suc zero)))))))))))) = let b = s.third in omega arith
+fields_small e s (suc (suc (suc (suc (suc (suc (suc (suc (suc (suc (suc (suc (suc zero))))))))))))) = omega arith
+fields_small e s (suc (suc (suc (suc (suc (suc (suc (suc (suc (suc (suc (suc (suc (suc zero)))))))))))))) = let b = s.fourth in omega arith
+fields_small e s (suc (suc (suc (suc (suc (suc (suc (suc (suc (suc (suc (suc (suc (suc (suc k))))))))))))))) = omega arith
 
 directive_small : (d : Directive) → directive_word d ≤ 2
 directive_small Directive.Replace = omega arith
@@ -62,15 +139,6 @@ few_events : (p : Production) → ProductionFacts p → length p.events ≤ 24
 unfolding sequence
 few_events p r = omega (arith, r.size, length_expanded p.events, length_le_size p.events)
 
-pub set_below : (ps : List Production) → type_set ps < 34359738368
-unfolding type_set
-set_below ps = mask_below_lt 35 (names_type ps)
-
--- the three words of a set
-pub words_joined : (m : ℕ) → m < 34359738368
-    → m % 65536 + 65536 * (m / 65536 % 65536) + 4294967296 * (m / 4294967296 % 65536) ≡ m
-words_joined m h = omega arith
-
 module _ (t : Table) (fit : fitting t ≡ true) (rest : List ℕ) where
   abbrev ps : List Production
   ps = t.productions
@@ -83,9 +151,6 @@ module _ (t : Table) (fit : fitting t ≡ true) (rest : List ℕ) where
 
   abbrev rs : List Span
   rs = all_parameters (all_calls t.productions)
-
-  abbrev ts : List ℕ
-  ts = type_words (type_set t.productions)
 
   abbrev l : List ℕ
   l = encode t ++ rest
@@ -109,7 +174,6 @@ module _ (t : Table) (fit : fitting t ≡ true) (rest : List ℕ) where
         events = events_in_all_lem ps limits;
         calls = calls_in_all_lem ps limits;
         parameters = parameters_in_all_lem ps limits;
-        types = omega arith;
       }
 
   word : (j i : ℕ) → i < get_or capacities j 0 → get_or (get_or (sections_of (entries_of t)) j []) i 0 < 65536
@@ -119,11 +183,18 @@ module _ (t : Table) (fit : fitting t ≡ true) (rest : List ℕ) where
 
   -- ---- Events
 
+  small : (i : ℕ) → EventSmall (get_or es i no_event)
+  small i = each_get_d EventSmall event_in_range es no_event none_small event_small fits.events i
+
+  event_fields_lem : (i k : ℕ) → get_or (map (λ (f : KeptEvent → ℕ). f (get_or es i no_event)) event_fields) k 0 < 65536
+  event_fields_lem i = fields_small (get_or es i no_event) (small i)
+
   -- the words of event i
   pub event_words : (i : ℕ) → i < 256
       → spread (word_at l) 256 (length event_fields) codes_at i ≡ map (λ (f : KeptEvent → ℕ). f (get_or es i no_event)) event_fields
-  unfolding encode entries_of
-  event_words i h = rows.event_words (entries_of t) rest room fits.events i h
+  unfolding encode entries_of zeros reach
+  event_words i h =
+      row_words (entries_of t) rest room event_fields 256 es (for_each call_fields 128 ++ for_each parameter_fields 256) (columns call_fields cs ++ columns parameter_fields rs) (before_events (entries_of t)) codes_at (events_there (entries_of t)) (events_start (entries_of t) room) (omega arith) no_event i room.events h refl (event_fields_lem i)
 
   pub code_word_lem : (i : ℕ) → i < 256 → word_at l (codes_at + i) ≡ (get_or es i no_event).code
   unfolding spread
@@ -195,8 +266,7 @@ module _ (t : Table) (fit : fitting t ≡ true) (rest : List ℕ) where
   unfolding event_entry
   event_read i h =
       rw (code_word_lem i h, count_word i h, set_word i h, clear_word i h, flags_word_lem i h, low_word_lem i h, high_word_lem i h, keysyms_read i h)
-      (let b : EventSmall (get_or es i no_event) = rows.small es fits.events i in
-      event_back (get_or es i no_event) b.code b.count b.names)
+      (event_back (get_or es i no_event) (small i).code (small i).count (small i).names)
 
   -- ---- Parameters
 
@@ -213,7 +283,7 @@ module _ (t : Table) (fit : fitting t ≡ true) (rest : List ℕ) where
       → spread (word_at l) 256 (length parameter_fields) parameter_starts_at i ≡ map (λ (f : Span → ℕ). f (get_or rs i no_span)) parameter_fields
   unfolding encode entries_of zeros reach
   parameter_words i h =
-      row_words (entries_of t) rest room parameter_fields 256 rs (3 ∷ []) (ts ∷ []) (before_parameters (entries_of t)) parameter_starts_at (parameters_there (entries_of t)) (parameters_start (entries_of t) room) (omega arith) no_span i room.parameters h refl (parameter_fields_lem i)
+      row_words (entries_of t) rest room parameter_fields 256 rs [] [] (before_parameters (entries_of t)) parameter_starts_at (parameters_there (entries_of t)) (parameters_start (entries_of t) room) (omega arith) no_span i room.parameters h refl (parameter_fields_lem i)
 
   pub parameter_start_word : (i : ℕ) → i < 256 → word_at l (parameter_starts_at + i) ≡ (get_or rs i no_span).start
   unfolding spread
@@ -248,7 +318,7 @@ module _ (t : Table) (fit : fitting t ≡ true) (rest : List ℕ) where
       → spread (word_at l) 128 (length call_fields) marks_at i ≡ map (λ (f : Call → ℕ). f (get_or cs i no_call)) call_fields
   unfolding encode entries_of zeros reach
   call_words i h =
-      row_words (entries_of t) rest room call_fields 128 cs (for_each parameter_fields 256 ++ (3 ∷ [])) (columns parameter_fields rs ++ (ts ∷ [])) (before_calls (entries_of t)) marks_at (calls_there (entries_of t)) (calls_start_lem (entries_of t) room) (omega arith) no_call i room.calls h refl (call_fields_lem i)
+      row_words (entries_of t) rest room call_fields 128 cs (for_each parameter_fields 256) (columns parameter_fields rs) (before_calls (entries_of t)) marks_at (calls_there (entries_of t)) (calls_start_lem (entries_of t) room) (omega arith) no_call i room.calls h refl (call_fields_lem i)
 
   pub mark_word_lem : (i : ℕ) → i < 128 → word_at l (marks_at + i) ≡ mark_word (get_or cs i no_call)
   unfolding spread
@@ -370,20 +440,6 @@ module _ (t : Table) (fit : fitting t ≡ true) (rest : List ℕ) where
   pub parameters_word : word_at l 7 ≡ length rs
   unfolding header_of
   parameters_word = header_word 7 (omega arith) (let b = parameters_in_all_lem ps limits in omega arith)
-
-  -- ---- The set of types
-
-  type_word : (k : ℕ) → k < 3 → get_or ts k 0 < 65536 → word_at l (types_at + k) ≡ get_or ts k 0
-  unfolding entries_of sections_of columns
-  type_word k h b = word 24 k h b
-
-  pub types_read : types_in l ≡ type_set t.productions
-  unfolding types_in
-  types_read =
-      let low : word_at l types_at ≡ type_set t.productions % 65536 = type_word 0 (omega arith) (omega arith) in
-      let middle : word_at l (types_at + 1) ≡ type_set t.productions / 65536 % 65536 = type_word 1 (omega arith) (omega arith) in
-      let high : word_at l (types_at + 2) ≡ type_set t.productions / 4294967296 % 65536 = type_word 2 (omega arith) (omega arith) in
-      rw (low, middle, high) (words_joined (type_set t.productions) (set_below t.productions))
 
   -- ---- The table
 

@@ -1,13 +1,10 @@
 -- The sections of the table that specs/Layout shows.
 use mathlib.Core.Path.{◌≡◌, refl}
-use mathlib.Core.List.{[], ◌∷◌}
+use mathlib.Core.List.{List, [], ◌∷◌}
 use mathlib.Core.Bool.{false}
+use Prim.Native.Nat.{ℕ}
 use Rattle.model.specs.Tables.{Table}
-use Rattle.model.specs.Counts.{elements_at, elements_of, expanded, sequence}
-use Rattle.model.specs.Matching.{has_type}
-use Rattle.model.specs.Modifiers.{mask_below}
 use Rattle.model.specs.Named.{no_keysyms}
-use Rattle.model.specs.Types.{type_set}
 use Rattle.model.specs.declared.events.Detail.{Detail}
 use Rattle.model.specs.declared.events.Directive.{Directive}
 use Rattle.model.specs.declared.events.KeptEvent.{KeptEvent}
@@ -72,7 +69,6 @@ pub shown_sections : sections_of (entries_of two_lines)
     ∷ (1 ∷ 0 ∷ [])
     ∷ (14 ∷ [])
     ∷ (1 ∷ [])
-    ∷ (20 ∷ 0 ∷ 0 ∷ [])
     ∷ [])
-unfolding sections_of entries_of header_of flat columns type_set mask_below has_type sequence expanded elements_of elements_at
+unfolding sections_of entries_of header_of flat columns
 shown_sections = refl

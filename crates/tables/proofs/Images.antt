@@ -18,7 +18,6 @@ pub record Room (x : Entries) : Type 0 where
   pub events : length x.events ≤ 256
   pub calls : length x.calls ≤ 128
   pub parameters : length x.parameters ≤ 256
-  pub types : length x.types ≤ 3
 
 pub sized : (x : Entries) → Room x → Sized capacities (sections_of x)
 unfolding sections_of columns
@@ -28,8 +27,7 @@ sized x r =
     (more r.production_calls
     (sized_columns 256 x.events event_fields r.events
     (sized_columns 128 x.calls call_fields r.calls
-    (sized_columns 256 x.parameters parameter_fields r.parameters
-    (more r.types none))))))
+    (sized_columns 256 x.parameters parameter_fields r.parameters none)))))
 
 pub length_image : (x : Entries) → Room x → length (image x) ≡ table_length
 unfolding image
@@ -87,33 +85,31 @@ module _ (x : Entries) where
   abbrev pub before_parameters : List ℕ
   before_parameters = before_calls ++ joined_sections (for_each call_fields 128) (columns call_fields x.calls)
 
-  abbrev parameter_rows : List (List ℕ)
-  parameter_rows = columns parameter_fields x.parameters ++ (x.types ∷ [])
-
   abbrev call_rows : List (List ℕ)
-  call_rows = columns call_fields x.calls ++ parameter_rows
+  call_rows = columns call_fields x.calls ++ columns parameter_fields x.parameters
 
   pub events_there : joined_sections capacities (sections_of x)
-      ≡ before_events ++ joined_sections (for_each event_fields 256 ++ (for_each call_fields 128 ++ (for_each parameter_fields 256 ++ (3 ∷ [])))) (columns event_fields x.events ++ call_rows)
+      ≡ before_events ++ joined_sections (for_each event_fields 256 ++ (for_each call_fields 128 ++ for_each parameter_fields 256)) (columns event_fields x.events ++ call_rows)
   unfolding sections_of joined_sections
   events_there =
-      let J : List ℕ = joined_sections (for_each event_fields 256 ++ (for_each call_fields 128 ++ (for_each parameter_fields 256 ++ (3 ∷ [])))) (columns event_fields x.events ++ call_rows) in
+      let J : List ℕ = joined_sections (for_each event_fields 256 ++ (for_each call_fields 128 ++ for_each parameter_fields 256)) (columns event_fields x.events ++ call_rows) in
       sym (append_assoc (padded 8 x.header ++ padded 64 x.production_events) (padded 64 x.production_calls) J
       ∙ append_assoc (padded 8 x.header) (padded 64 x.production_events) (padded 64 x.production_calls ++ J))
 
   pub calls_there : joined_sections capacities (sections_of x)
-      ≡ before_calls ++ joined_sections (for_each call_fields 128 ++ (for_each parameter_fields 256 ++ (3 ∷ []))) call_rows
+      ≡ before_calls ++ joined_sections (for_each call_fields 128 ++ for_each parameter_fields 256) call_rows
   calls_there =
       events_there
-      ∙ ap (λ (W : List ℕ). before_events ++ W) (past_columns 256 x.events event_fields (for_each call_fields 128 ++ (for_each parameter_fields 256 ++ (3 ∷ []))) call_rows)
-      ∙ sym (append_assoc before_events (joined_sections (for_each event_fields 256) (columns event_fields x.events)) (joined_sections (for_each call_fields 128 ++ (for_each parameter_fields 256 ++ (3 ∷ []))) call_rows))
+      ∙ ap (λ (W : List ℕ). before_events ++ W) (past_columns 256 x.events event_fields (for_each call_fields 128 ++ for_each parameter_fields 256) call_rows)
+      ∙ sym (append_assoc before_events (joined_sections (for_each event_fields 256) (columns event_fields x.events)) (joined_sections (for_each call_fields 128 ++ for_each parameter_fields 256) call_rows))
 
   pub parameters_there : joined_sections capacities (sections_of x)
-      ≡ before_parameters ++ joined_sections (for_each parameter_fields 256 ++ (3 ∷ [])) parameter_rows
+      ≡ before_parameters ++ joined_sections (for_each parameter_fields 256 ++ []) (columns parameter_fields x.parameters ++ [])
+  unfolding columns
   parameters_there =
       calls_there
-      ∙ ap (λ (W : List ℕ). before_calls ++ W) (past_columns 128 x.calls call_fields (for_each parameter_fields 256 ++ (3 ∷ [])) parameter_rows)
-      ∙ sym (append_assoc before_calls (joined_sections (for_each call_fields 128) (columns call_fields x.calls)) (joined_sections (for_each parameter_fields 256 ++ (3 ∷ [])) parameter_rows))
+      ∙ ap (λ (W : List ℕ). before_calls ++ W) (past_columns 128 x.calls call_fields (for_each parameter_fields 256) (columns parameter_fields x.parameters))
+      ∙ sym (append_assoc before_calls (joined_sections (for_each call_fields 128) (columns call_fields x.calls)) (joined_sections (for_each parameter_fields 256) (columns parameter_fields x.parameters)))
 
   module _ (r : Room x) where
     pub events_start : length before_events ≡ codes_at

@@ -5,7 +5,6 @@ pub mod Sizes
 pub mod Facts
 pub mod Columns
 pub mod Images
-pub mod EventRows
 pub mod Encoded
 pub mod Theorems
 pub mod Written

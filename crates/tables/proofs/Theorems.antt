@@ -1,29 +1,23 @@
 -- What `whole`, `encode` and `decode` are to each other (specs/Laws).
-use Prim.Native.Nat.{ℕ, ◌+◌, ◌-◌, ◌≤◌}
+use Prim.Native.Nat.{ℕ, ◌-◌, ◌≤◌}
 use native.Mathlib.Omega.{arith}
 use mathlib.Core.Path.{◌≡◌, refl, sym, ap, ◌∙◌}
 use mathlib.Core.List.{List, [], ◌∷◌, ◌++◌, map}
-use mathlib.Core.Bool.{Bool, true, false, ◌&&◌, false≢true}
-use lib.Dec.{leb}
+use mathlib.Core.Bool.{true}
 use lib.ListN.{length, take, drop, take-append-drop, length-append}
 use lib.Seq.{take_at}
-use borrow.Author.Tests.{leb-true}
 use Rattle.words.specs.Words.{word_bytes, zeros}
 use Rattle.words.proofs.Bools.{and_left, and_right, and_both}
-use Rattle.words.proofs.Laws.{length_zeros, zeros_add}
+use Rattle.words.proofs.Laws.{zeros_add}
 use Rattle.words.proofs.Images.{bytes_zeros}
 use Rattle.model.specs.Lists.{same}
-use Rattle.model.specs.Modifiers.{bit, mask_below}
-use Rattle.model.specs.Tables.{Table, empty_table}
-use Rattle.model.specs.Matching.{names_type}
-use Rattle.model.specs.Types.{type_set}
+use Rattle.model.specs.Tables.{Table}
 use Rattle.model.proofs.Sameness.{same_eq, same_refl}
-use Rattle.modifiers.proofs.Masks.{bit_mask_below}
 use Rattle.tables.specs.Layout.{padded, joined_sections, offset, columns, capacities, table_length, flat, header_of, entries_of, sections_of, image, encode}
-use Rattle.tables.specs.Reading.{types_in, decode}
+use Rattle.tables.specs.Reading.{decode}
 use Rattle.tables.specs.Fitting.{fitting}
 use Rattle.tables.specs.Whole.{whole}
-use Rattle.tables.specs.Laws.{DecodeEncode, HoldsTable, WholeHolds, HoldsWhole, HoldsDecode, EncodeEmpty, WholeTypes, TypesAnswer}
+use Rattle.tables.specs.Laws.{DecodeEncode, HoldsTable, WholeHolds, HoldsWhole, HoldsDecode, EncodeEmpty}
 use Rattle.tables.proofs.Images.{length_image}
 use Rattle.tables.proofs.Encoded as encoded
 
@@ -76,47 +70,16 @@ joined_empty (c ∷ cs) =
     let e : c - 0 ≡ c = omega arith in
     rw (e, joined_empty cs) (zeros_add c (offset cs (length cs)))
 
--- as many zeros in each section as it has room for
-abbrev within : List ℕ → List ℕ → Bool
-within [] [] = true
-within [] (n ∷ ns) = false
-within (c ∷ cs) [] = false
-within (c ∷ cs) (n ∷ ns) = leb n c && within cs ns
+header_empty : padded 8 (0 ∷ 0 ∷ 0 ∷ 0 ∷ 0 ∷ 0 ∷ 0 ∷ 0 ∷ []) ≡ zeros 8
+unfolding padded zeros
+header_empty = refl
 
-joined_zeros : (cs ns : List ℕ) → within cs ns ≡ true → joined_sections cs (map zeros ns) ≡ zeros (offset cs (length cs))
-unfolding joined_sections padded
-joined_zeros [] [] h = zeros_none
-joined_zeros [] (n ∷ ns) h = absurd (false≢true h)
-joined_zeros (c ∷ cs) [] h = absurd (false≢true h)
-joined_zeros (c ∷ cs) (n ∷ ns) h =
-    let b : n ≤ c = leb-true n c (and_left (leb n c) (within cs ns) h) in
-    let e : n + (c - n) ≡ c = omega arith in
-    rw (length_zeros n, zeros_add n (c - n), e, joined_zeros cs ns (and_right (leb n c) (within cs ns) h))
-    (zeros_add c (offset cs (length cs)))
+abbrev after_header : List ℕ
+after_header = drop 1 capacities
 
--- the header and the set of types are full of zeros, the other sections empty
-abbrev empty_used : List ℕ
-empty_used = 8 ∷ (map (λ c. 0) (drop 2 capacities) ++ (3 ∷ []))
-
-sections_empty : sections_of (entries_of empty_table) ≡ map zeros empty_used
-unfolding entries_of sections_of columns header_of flat zeros type_set mask_below
-sections_empty = refl
+words_empty : padded 8 (0 ∷ 0 ∷ 0 ∷ 0 ∷ 0 ∷ 0 ∷ 0 ∷ 0 ∷ []) ++ joined_sections after_header (map (λ c. []) after_header) ≡ zeros 5000
+words_empty = rw (header_empty, joined_empty after_header) (zeros_add 8 4992)
 
 pub encode_empty : EncodeEmpty
-unfolding encode image
-encode_empty =
-    ap (λ (ss : List (List ℕ)). word_bytes (joined_sections capacities ss)) sections_empty
-    ∙ ap word_bytes (joined_zeros capacities empty_used refl)
-    ∙ bytes_zeros 5003
-
--- ---- R-5
-
-pub whole_types : WholeTypes
-whole_types l e =
-    let h : HoldsTable (decode l) l = whole_holds l e in
-    ap types_in (holds_split (decode l) l h) ∙ encoded.types_read (decode l) h.fits (drop table_length l)
-
-pub types_answer_lem : TypesAnswer
-unfolding type_set
-types_answer_lem l e code h =
-    ap (bit code) (whole_types l e) ∙ bit_mask_below 35 (names_type (decode l).productions) code (omega arith)
+unfolding encode image entries_of sections_of columns header_of flat joined_sections
+encode_empty = ap word_bytes words_empty ∙ bytes_zeros 5000

@@ -1,5 +1,5 @@
 -- What writing one entry does to bytes that hold entries: they hold one entry more.
-use Prim.Native.Nat.{ℕ, zero, suc, ◌+◌, ◌/◌, ◌%◌, ◌≤◌, ◌<◌}
+use Prim.Native.Nat.{ℕ, zero, suc, ◌+◌, ◌≤◌, ◌<◌}
 use native.Mathlib.Omega.{arith}
 use mathlib.Core.Path.{◌≡◌, refl, sym, ap, ◌∙◌}
 use mathlib.Core.List.{List, [], ◌∷◌, ◌++◌}
@@ -11,8 +11,8 @@ use Rattle.model.specs.Tables.{Call}
 use Rattle.model.specs.declared.scan.Span.{Span}
 use Rattle.model.specs.declared.events.KeptEvent.{KeptEvent}
 use Rattle.model.specs.declared.events.Directive.{Directive}
-use Rattle.tables.specs.Layout.{Entries, joined_sections, offset, columns, for_each, event_fields, call_fields, parameter_fields, capacities, sections_of, image, flag, directive_word, type_words, codes_at, marks_at, production_calls_at, parameter_starts_at, types_at, table_length}
-use Rattle.tables.specs.Writing.{put_test, put_detail, put_first_two, put_last_two, put_keysyms, put_event, put_call, put_parameter, put_production, put_texts, put_counts, put_types, no_entries, with_event, with_call, with_parameter, with_production, with_header, with_types}
+use Rattle.tables.specs.Layout.{Entries, joined_sections, offset, columns, for_each, event_fields, call_fields, parameter_fields, capacities, sections_of, image, flag, directive_word, codes_at, marks_at, production_calls_at, parameter_starts_at, table_length}
+use Rattle.tables.specs.Writing.{put_test, put_detail, put_first_two, put_last_two, put_keysyms, put_event, put_call, put_parameter, put_production, put_texts, put_counts, no_entries, with_event, with_call, with_parameter, with_production, with_header}
 use Rattle.tables.proofs.Sections.{Sized, none, more, length_joined, append_joined, offset_below}
 use Rattle.tables.proofs.Columns.{put_all, reach}
 use Rattle.tables.proofs.Images.{Room, sized, row_put, before_events, before_calls, before_parameters, events_there, calls_there, parameters_there, events_start, calls_start_lem, parameters_start}
@@ -41,32 +41,6 @@ put_section ss rest j n w s e h =
     (omega (arith, length_joined capacities ss s, offset_below capacities j n h))
     ∙ ap (λ (W : List ℕ). word_bytes W ++ rest) (ap (λ (k : ℕ). set (joined_sections capacities ss) (offset capacities j + k) w) (sym e) ∙ append_joined capacities ss j w s q)
 
--- ---- Room for another header, and for another set of types
-
-pub header_room : (x : Entries) (header : List ℕ) → Room x → length header ≤ 8 → Room (with_header x header)
-header_room x header r h =
-    record {
-      header = h;
-      production_events = r.production_events;
-      production_calls = r.production_calls;
-      events = r.events;
-      calls = r.calls;
-      parameters = r.parameters;
-      types = r.types;
-    }
-
-pub types_room : (x : Entries) (types : List ℕ) → Room x → length types ≤ 3 → Room (with_types x types)
-types_room x types r h =
-    record {
-      header = r.header;
-      production_events = r.production_events;
-      production_calls = r.production_calls;
-      events = r.events;
-      calls = r.calls;
-      parameters = r.parameters;
-      types = h;
-    }
-
 -- ---- One entry
 
 module _ (x : Entries) (rest : List ℕ) (room : Room x) where
@@ -74,21 +48,21 @@ module _ (x : Entries) (rest : List ℕ) (room : Room x) where
       → put_event (image x ++ rest) (length x.events) e ≡ image (with_event x e) ++ rest
   unfolding put_event put_test put_detail put_keysyms put_first_two put_last_two put_all reach image
   put_event_lem e h =
-      row_put x rest room event_fields 256 x.events (for_each call_fields 128 ++ (for_each parameter_fields 256 ++ (3 ∷ []))) (columns call_fields x.calls ++ (columns parameter_fields x.parameters ++ (x.types ∷ []))) (before_events x) codes_at (events_there x) (events_start x room) (omega arith) e h
+      row_put x rest room event_fields 256 x.events (for_each call_fields 128 ++ for_each parameter_fields 256) (columns call_fields x.calls ++ columns parameter_fields x.parameters) (before_events x) codes_at (events_there x) (events_start x room) (omega arith) e h
       ∙ ap (λ (W : List ℕ). word_bytes W ++ rest) (sym (events_there (with_event x e)))
 
   pub put_call_lem : (c : Call) → length x.calls < 128
       → put_call (image x ++ rest) (length x.calls) c.second c.name (length c.parameters) ≡ image (with_call x c) ++ rest
   unfolding put_call put_all reach image
   put_call_lem c h =
-      row_put x rest room call_fields 128 x.calls (for_each parameter_fields 256 ++ (3 ∷ [])) (columns parameter_fields x.parameters ++ (x.types ∷ [])) (before_calls x) marks_at (calls_there x) (calls_start_lem x room) (omega arith) c h
+      row_put x rest room call_fields 128 x.calls (for_each parameter_fields 256) (columns parameter_fields x.parameters) (before_calls x) marks_at (calls_there x) (calls_start_lem x room) (omega arith) c h
       ∙ ap (λ (W : List ℕ). word_bytes W ++ rest) (sym (calls_there (with_call x c)))
 
   pub put_parameter_lem : (s : Span) → length x.parameters < 256
       → put_parameter (image x ++ rest) (length x.parameters) s ≡ image (with_parameter x s) ++ rest
   unfolding put_parameter put_all reach image
   put_parameter_lem s h =
-      row_put x rest room parameter_fields 256 x.parameters (3 ∷ []) (x.types ∷ []) (before_parameters x) parameter_starts_at (parameters_there x) (parameters_start x room) (omega arith) s h
+      row_put x rest room parameter_fields 256 x.parameters [] [] (before_parameters x) parameter_starts_at (parameters_there x) (parameters_start x room) (omega arith) s h
       ∙ ap (λ (W : List ℕ). word_bytes W ++ rest) (sym (parameters_there (with_parameter x s)))
 
   pub put_production_lem : (events calls : ℕ) → length x.production_calls ≡ length x.production_events → length x.production_events < 64
@@ -112,7 +86,15 @@ module _ (x : Entries) (rest : List ℕ) (room : Room x) where
   bare = with_header x []
 
   bare_room : Room bare
-  bare_room = header_room x [] room (omega arith)
+  bare_room =
+      record {
+        header = omega arith;
+        production_events = room.production_events;
+        production_calls = room.production_calls;
+        events = room.events;
+        calls = room.calls;
+        parameters = room.parameters;
+      }
 
   pub put_header_lem : (d : Directive) (m : Bool) (first second ps es cs rs : ℕ)
       → put_counts (put_texts (image (with_header x []) ++ rest) d m first second) ps es cs rs
@@ -153,39 +135,13 @@ module _ (x : Entries) (rest : List ℕ) (room : Room x) where
       let e7 = ap (λ (l : List ℕ). put_word l 7 rs) e6 ∙ a7 in
       e7
 
-  -- ---- The set of types, which is written last too
-
-  abbrev untyped : Entries
-  untyped = with_types x []
-
-  untyped_room : Room untyped
-  untyped_room = types_room x [] room (omega arith)
-
-  pub put_types_lem : (m : ℕ) → put_types (image (with_types x []) ++ rest) m ≡ image (with_types x (type_words m)) ++ rest
-  unfolding put_types image sections_of columns
-  put_types_lem m =
-      let S0 = sections_of untyped in
-      let Z0 = sized untyped untyped_room in
-      let low = m % 65536 in
-      let middle = m / 65536 % 65536 in
-      let high = m / 4294967296 % 65536 in
-      let a0 = put_section S0 rest 24 0 low Z0 refl (omega arith) in
-      let Z1 = sized_append capacities S0 24 low Z0 (omega arith) in
-      let S1 = set S0 24 (get_or S0 24 [] ++ (low ∷ [])) in
-      let a1 = put_section S1 rest 24 1 middle Z1 refl (omega arith) in
-      let Z2 = sized_append capacities S1 24 middle Z1 (omega arith) in
-      let S2 = set S1 24 (get_or S1 24 [] ++ (middle ∷ [])) in
-      let e1 = ap (λ (l : List ℕ). put_word l (types_at + 1) middle) a0 ∙ a1 in
-      let a2 = put_section S2 rest 24 2 high Z2 refl (omega arith) in
-      ap (λ (l : List ℕ). put_word l (types_at + 2) high) e1 ∙ a2
-
 -- ---- No entries
 
 -- a cleared buffer holds none
 pub cleared_holds : (l : List ℕ) → cleared table_length l ≡ image no_entries ++ drop table_length l
 unfolding cleared image sections_of columns
 cleared_holds l =
-    ap (λ (a : List ℕ). a ++ drop table_length l) (sym (ap word_bytes (joined_empty capacities) ∙ bytes_zeros 5003))
+    ap (λ (a : List ℕ). a ++ drop table_length l) (sym (ap word_bytes (joined_empty capacities) ∙ bytes_zeros 5000))
 
 pub no_room : Room no_entries
 no_room =
@@ -196,5 +152,4 @@ no_room =
       events = omega arith;
       calls = omega arith;
       parameters = omega arith;
-      types = omega arith;
     }

@@ -1,14 +1,11 @@
 -- What `encode`, `decode` and `whole` are to each other: the statements that docs/LAYOUT.md names. proofs/Theorems and
 -- proofs/AcceptedFits prove them.
-use Rattle.std.specs.Prelude.{ℕ, ◌≤◌, ◌≡◌, true, List, ◌++◌, take}
+use Rattle.std.specs.Prelude.{ℕ, ◌≡◌, true, List, ◌++◌, take}
 use Rattle.words.specs.Words.{zeros}
-use Rattle.model.specs.Modifiers.{bit}
 use Rattle.model.specs.Tables.{Table, empty_table}
-use Rattle.model.specs.Matching.{names_type}
-use Rattle.model.specs.Types.{type_set}
 use Rattle.model.specs.Demand.{Accepted}
 use Rattle.tables.specs.Layout.{table_length, encode}
-use Rattle.tables.specs.Reading.{types_in, decode}
+use Rattle.tables.specs.Reading.{decode}
 use Rattle.tables.specs.Fitting.{fitting}
 use Rattle.tables.specs.Whole.{whole}
 
@@ -37,16 +34,6 @@ HoldsDecode = (t : Table) (l : List ℕ) → HoldsTable t l → decode l ≡ t
 -- `encode-empty`: "After any other the compiler and merger leave the output table all zero, an empty table."
 abbrev pub EncodeEmpty : Type 0
 EncodeEmpty = encode empty_table ≡ zeros table_length
-
--- ---- R-5
-
--- `whole-types`: the set that a whole table keeps is what the scan over all its productions gives
-abbrev pub WholeTypes : Type 0
-WholeTypes = (l : List ℕ) → whole l ≡ true → types_in l ≡ type_set (decode l).productions
-
--- `types-answer`: so rule 1 is answered by the set: "dropped exactly when its type isn't in the set"
-abbrev pub TypesAnswer : Type 0
-TypesAnswer = (l : List ℕ) → whole l ≡ true → (code : ℕ) → code ≤ 34 → bit code (types_in l) ≡ names_type (decode l).productions code
 
 -- ---- Accepted tables
 

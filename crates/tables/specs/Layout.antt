@@ -1,4 +1,4 @@
--- The layout of a table in lent bytes: 5,003 words of 16 bits, the lower byte first, in sections by field. Only this crate and
+-- The layout of a table in lent bytes: 5,000 words of 16 bits, the lower byte first, in sections by field. Only this crate and
 -- those of the check know a place as a number. A table of two lines (proofs/Example computes its sections):
 --
 --     Ctrl<Key>a: f(x)
@@ -23,7 +23,6 @@
 --     4360 ..     parameters of each call        1 0
 --     4488 ..     parameters: where they start   14       x
 --     4744 ..     parameters: their lengths      1
---     5000 ..     types                          20 0 0   a mask: bit 2 for a key press, bit 4 for a button press
 --
 -- A section has room for the most entries that a table may have, and its unused words are 0. Entry i of a field stands at the
 -- section's first word plus i. Which parameters are a call's, and which calls and events are a production's, follows from how
@@ -31,7 +30,6 @@
 use Rattle.std.specs.Prelude.{ℕ, zero, suc, ◌+◌, ◌-◌, ◌*◌, ◌/◌, ◌%◌, Bool, cond, List, [], ◌∷◌, ◌++◌, map, length}
 use Rattle.words.specs.Words.{word_bytes, zeros}
 use Rattle.model.specs.Tables.{Call, Production, Table}
-use Rattle.model.specs.Types.{type_set}
 use Rattle.model.specs.declared.scan.Span.{Span}
 use Rattle.model.specs.declared.events.Detail.{Detail}
 use Rattle.model.specs.declared.events.KeptEvent.{KeptEvent}
@@ -57,7 +55,7 @@ offset (c ∷ cs) (suc j) = c + offset cs j
 
 -- ---- The sections of a table
 
--- the first word of each section: `offset capacities` 0 to 24
+-- the first word of each section: `offset capacities` 0 to 23
 
 abbrev pub production_events_at : ℕ
 production_events_at = 8
@@ -128,12 +126,9 @@ parameter_starts_at = 4488
 abbrev pub parameter_lengths_at : ℕ
 parameter_lengths_at = 4744
 
-abbrev pub types_at : ℕ
-types_at = 5000
-
 -- the length of a table in bytes, the same for all content
 abbrev pub table_length : ℕ
-table_length = 10006
+table_length = 10000
 
 -- ---- Fields as words
 
@@ -166,10 +161,6 @@ high_word e = value_of e.detail / 65536
 -- 0 the first text, 1 the second
 abbrev pub mark_word : Call → ℕ
 mark_word c = flag 1 c.second
-
--- R-5: the set of event types, a mask of 35 bits, the lowest word first
-abbrev pub type_words : ℕ → List ℕ
-type_words set = set % 65536 ∷ set / 65536 % 65536 ∷ set / 4294967296 % 65536 ∷ []
 
 -- ---- Fields: each has a section of its own
 
@@ -216,9 +207,9 @@ module _ {A : Type 0} where
   abbrev pub for_each : List (A → ℕ) → ℕ → List ℕ
   for_each fs c = map (λ (f : A → ℕ). c) fs
 
--- the header; two fields of productions; those of events, of calls and of parameters; the set of types
+-- the header; two fields of productions; those of events, of calls and of parameters
 abbrev pub capacities : List ℕ
-capacities = 8 ∷ 64 ∷ 64 ∷ (for_each event_fields 256 ++ (for_each call_fields 128 ++ (for_each parameter_fields 256 ++ (3 ∷ []))))
+capacities = 8 ∷ 64 ∷ 64 ∷ (for_each event_fields 256 ++ (for_each call_fields 128 ++ for_each parameter_fields 256))
 
 -- ---- A table's entries in production order, with no nesting
 
@@ -245,7 +236,6 @@ pub record Entries : Type 0 where
   pub events : List KeptEvent
   pub calls : List Call
   pub parameters : List Span
-  pub types : List ℕ
 
 -- directive, merged, length of the first text and of the second; how many productions, events, calls and parameters
 unfoldable pub header_of : Table → List ℕ
@@ -269,7 +259,6 @@ entries_of t =
       events = all_events t.productions;
       calls = all_calls t.productions;
       parameters = all_parameters (all_calls t.productions);
-      types = type_words (type_set t.productions);
     }
 
 -- the words of each section that are used
@@ -278,7 +267,7 @@ sections_of x =
     x.header
     ∷ x.production_events
     ∷ x.production_calls
-    ∷ (columns event_fields x.events ++ (columns call_fields x.calls ++ (columns parameter_fields x.parameters ++ (x.types ∷ []))))
+    ∷ (columns event_fields x.events ++ (columns call_fields x.calls ++ columns parameter_fields x.parameters))
 
 -- entries as bytes
 unfoldable pub image : Entries → List ℕ

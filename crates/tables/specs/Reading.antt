@@ -8,7 +8,7 @@ use Rattle.model.specs.declared.events.Detail.{Detail}
 use Rattle.model.specs.declared.events.Keysyms.{Keysyms}
 use Rattle.model.specs.declared.events.KeptEvent.{KeptEvent}
 use Rattle.model.specs.declared.events.Directive.{Directive}
-use Rattle.tables.specs.Layout.{production_events_at, production_calls_at, codes_at, counts_at, sets_at, clears_at, flags_at, lows_at, highs_at, first_lows_at, first_highs_at, second_lows_at, second_highs_at, third_lows_at, third_highs_at, fourth_lows_at, fourth_highs_at, marks_at, name_starts_at, name_lengths_at, call_parameters_at, parameter_starts_at, parameter_lengths_at, types_at}
+use Rattle.tables.specs.Layout.{production_events_at, production_calls_at, codes_at, counts_at, sets_at, clears_at, flags_at, lows_at, highs_at, first_lows_at, first_highs_at, second_lows_at, second_highs_at, third_lows_at, third_highs_at, fourth_lows_at, fourth_highs_at, marks_at, name_starts_at, name_lengths_at, call_parameters_at, parameter_starts_at, parameter_lengths_at}
 
 -- ---- The header
 
@@ -38,11 +38,6 @@ call_total l = word_at l 6
 
 unfoldable pub parameter_total : List ℕ → ℕ
 parameter_total l = word_at l 7
-
--- ---- R-5: the set of event types, which `decode` does not need: it follows from the productions
-
-unfoldable pub types_in : List ℕ → ℕ
-types_in l = word_at l types_at + 65536 * word_at l (types_at + 1) + 4294967296 * word_at l (types_at + 2)
 
 -- ---- Parameters
 

@@ -1,5 +1,4 @@
--- Document 01, number 12: "table not whole: an entry outside its range, an unused word not 0, a span outside its text"; R-5:
--- "12 also where it differs", the set of types, which `encode` has as the productions give it.
+-- Document 01, number 12: "table not whole: an entry outside its range, an unused word not 0, a span outside its text".
 use Rattle.std.specs.Prelude.{ℕ, Bool, ◌&&◌, List, take}
 use Rattle.model.specs.Lists.{same}
 use Rattle.tables.specs.Layout.{table_length, encode}

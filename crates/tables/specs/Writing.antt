@@ -7,7 +7,7 @@ use Rattle.model.specs.declared.events.Keysyms.{Keysyms}
 use Rattle.model.specs.declared.events.KeptEvent.{KeptEvent}
 use Rattle.model.specs.declared.events.Directive.{Directive}
 use Rattle.tables.specs.Layout.{flag, directive_word, flags_word, low_word, high_word, Entries}
-use Rattle.tables.specs.Layout.{production_events_at, production_calls_at, codes_at, counts_at, sets_at, clears_at, flags_at, lows_at, highs_at, first_lows_at, first_highs_at, second_lows_at, second_highs_at, third_lows_at, third_highs_at, fourth_lows_at, fourth_highs_at, marks_at, name_starts_at, name_lengths_at, call_parameters_at, parameter_starts_at, parameter_lengths_at, types_at}
+use Rattle.tables.specs.Layout.{production_events_at, production_calls_at, codes_at, counts_at, sets_at, clears_at, flags_at, lows_at, highs_at, first_lows_at, first_highs_at, second_lows_at, second_highs_at, third_lows_at, third_highs_at, fourth_lows_at, fourth_highs_at, marks_at, name_starts_at, name_lengths_at, call_parameters_at, parameter_starts_at, parameter_lengths_at}
 
 -- ---- In bytes
 
@@ -69,17 +69,10 @@ unfoldable pub put_counts : List ℕ → (productions events calls parameters : 
 put_counts l productions events calls parameters =
     put_word (put_word (put_word (put_word l 4 productions) 5 events) 6 calls) 7 parameters
 
--- the set of types
-unfoldable pub put_types : List ℕ → (set : ℕ) → List ℕ
-put_types l set =
-    put_word
-    (put_word (put_word l types_at (set % 65536)) (types_at + 1) (set / 65536 % 65536))
-    (types_at + 2) (set / 4294967296 % 65536)
-
 -- ---- In entries
 
 abbrev pub no_entries : Entries
-no_entries = record { header = []; production_events = []; production_calls = []; events = []; calls = []; parameters = []; types = [] }
+no_entries = record { header = []; production_events = []; production_calls = []; events = []; calls = []; parameters = [] }
 
 abbrev pub with_event : Entries → KeptEvent → Entries
 with_event x e =
@@ -90,7 +83,6 @@ with_event x e =
       events = x.events ++ (e ∷ []);
       calls = x.calls;
       parameters = x.parameters;
-      types = x.types;
     }
 
 abbrev pub with_call : Entries → Call → Entries
@@ -102,7 +94,6 @@ with_call x c =
       events = x.events;
       calls = x.calls ++ (c ∷ []);
       parameters = x.parameters;
-      types = x.types;
     }
 
 abbrev pub with_parameter : Entries → Span → Entries
@@ -114,7 +105,6 @@ with_parameter x s =
       events = x.events;
       calls = x.calls;
       parameters = x.parameters ++ (s ∷ []);
-      types = x.types;
     }
 
 abbrev pub with_production : Entries → (events calls : ℕ) → Entries
@@ -126,7 +116,6 @@ with_production x events calls =
       events = x.events;
       calls = x.calls;
       parameters = x.parameters;
-      types = x.types;
     }
 
 abbrev pub with_header : Entries → List ℕ → Entries
@@ -138,17 +127,4 @@ with_header x header =
       events = x.events;
       calls = x.calls;
       parameters = x.parameters;
-      types = x.types;
-    }
-
-abbrev pub with_types : Entries → List ℕ → Entries
-with_types x types =
-    record {
-      header = x.header;
-      production_events = x.production_events;
-      production_calls = x.production_calls;
-      events = x.events;
-      calls = x.calls;
-      parameters = x.parameters;
-      types = types;
     }

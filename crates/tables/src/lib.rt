@@ -4,4 +4,4 @@ pub mod read;
 pub mod write;
 
 // The length of a table in bytes, the same for all content.
-pub const TABLE_LENGTH: usize = 10006;
+pub const TABLE_LENGTH: usize = 10000;

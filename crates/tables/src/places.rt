@@ -72,7 +72,3 @@ pub const CALL_PARAMETERS: usize = 4360;
 pub const PARAMETER_STARTS: usize = 4488;
 
 pub const PARAMETER_LENGTHS: usize = 4744;
-
-// ---- The set of event types, of three words
-
-pub const TYPES: usize = 5000;

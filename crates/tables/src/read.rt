@@ -1,6 +1,6 @@
 // The entries of a table, read by value. Each answer is a definition of specs/Reading on the bytes, whole or not.
 ghost use Rattle.std.specs.Prelude.{◌≡◌, ◌+◌, ◌*◌, ◌≤◌, ◌<◌, length};
-ghost use Rattle.tables.specs.Reading.{directive_in, merged_in, first_length_in, second_length_in, production_total, event_total, call_total, parameter_total, types_in, parameter_entry, mark_entry, name_entry, call_parameters, first_parameter, is_flag, detail_from_word, keysyms_entry, event_from_words, event_entry, production_events, production_calls, first_event, first_call};
+ghost use Rattle.tables.specs.Reading.{directive_in, merged_in, first_length_in, second_length_in, production_total, event_total, call_total, parameter_total, parameter_entry, mark_entry, name_entry, call_parameters, first_parameter, is_flag, detail_from_word, keysyms_entry, event_from_words, event_entry, production_events, production_calls, first_event, first_call};
 ghost use Rattle.tables.specs.Layout.{table_length};
 
 use crate::places;
@@ -70,24 +70,6 @@ pub fn parameter_count(l: &[u8]) -> usize
     ensures { result ≡ parameter_total l.now }
 {
     words::word_at(l, places::PARAMETERS) as usize
-}
-
-// ---- The set of event types
-
-fn widened(w: u16) -> u64
-    ensures { (result ≡ w) × (result < 65536) }
-{
-    w as u64
-}
-
-// Bit c stands for code c.
-pub fn types(l: &[u8]) -> u64
-    requires { table_length ≤ length l.now }
-    ensures { result ≡ types_in l.now }
-{
-    widened(words::word_at(l, places::TYPES))
-        + 65536 * widened(words::word_at(l, places::TYPES + 1))
-        + 4294967296 * widened(words::word_at(l, places::TYPES + 2))
 }
 
 // ---- Productions

@@ -2,7 +2,7 @@
 ghost use Rattle.std.specs.Prelude.{◌≡◌, ◌+◌, ◌*◌, ◌≤◌, ◌<◌, length};
 ghost use Rattle.words.specs.Words.{cleared};
 ghost use Rattle.tables.specs.Layout.{flag, is_given, value_of, directive_word, table_length};
-ghost use Rattle.tables.specs.Writing.{put_test, put_detail, put_first_two, put_last_two, put_keysyms, put_event, put_call, put_parameter, put_production, put_texts, put_counts, put_types};
+ghost use Rattle.tables.specs.Writing.{put_test, put_detail, put_first_two, put_last_two, put_keysyms, put_event, put_call, put_parameter, put_production, put_texts, put_counts};
 
 use crate::places;
 use model::events::{Detail, Directive, KeptEvent, Keysyms};
@@ -188,15 +188,4 @@ pub fn put_counts(
     words::put_word(out, places::EVENTS, events as u16);
     words::put_word(out, places::CALLS, calls as u16);
     words::put_word(out, places::PARAMETERS, parameters as u16);
-}
-
-// ---- The set of event types
-
-pub fn put_types(out: &mut [u8], set: u64)
-    requires { table_length ≤ length out.old }
-    ensures { out.new ≡ put_types out.old set }
-{
-    words::put_word(out, places::TYPES, (set % 65536) as u16);
-    words::put_word(out, places::TYPES + 1, (set / 65536 % 65536) as u16);
-    words::put_word(out, places::TYPES + 2, (set / 4294967296 % 65536) as u16);
 }

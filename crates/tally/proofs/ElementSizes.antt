@@ -16,7 +16,7 @@ use Rattle.tables.specs.Fitting.{event_in_range}
 use Rattle.tables.proofs.Lists.{all_at}
 use Rattle.tables.proofs.Sizes.{length_elements}
 use Rattle.tables.proofs.EventWords.{range_facts}
-use Rattle.tables.proofs.EventRows.{no_event}
+use Rattle.tables.proofs.Encoded.{no_event}
 
 pub element_size : (e : KeptEvent) → element_count e.code e.count ≡ length (elements_of e)
 element_size e = sym (length_elements e)

@@ -1,4 +1,1 @@
-pub mod Expanded
-pub mod Joined
-pub mod Gathered
-pub mod Last
+pub mod TypeLaws

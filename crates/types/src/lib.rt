@@ -1,120 +1,62 @@
-// R-5: the set of event types that a table names, expansion included, as a mask: bit c stands for code c. It is gathered from the
-// events when a table is made and when it is checked; an event is dropped by the set alone.
-pub mod write;
-
-ghost use Rattle.std.specs.Prelude.{◌≡◌, true, cond, ◌%◌, ◌^◌, ◌≤◌, ◌<◌, eqb, length};
-ghost use Rattle.model.specs.Modifiers.{bit};
-ghost use Rattle.model.specs.Matching.{names_type};
-ghost use Rattle.tables.specs.Layout.{table_length};
-ghost use Rattle.tables.specs.Reading.{types_in, decode};
+// Which types of events the productions of a table have, expansion included: an event of any other type is dropped.
+ghost use Rattle.std.specs.Prelude.{◌≡◌, true, ◌≤◌, length};
+ghost use Rattle.tables.specs.Reading.{decode};
 ghost use Rattle.tables.specs.Whole.{whole};
-ghost use Rattle.types.specs.Scan.{joined, code_at, counted_at, code_bit, low_bit, pairs_of, gathered};
+ghost use Rattle.model.specs.Lists.{any};
+ghost use Rattle.model.specs.Matching.{has_type};
+ghost use Rattle.types.specs.Types.{any_below, other_code, has_code, has_either};
+ghost use Rattle.tables.specs.Layout.{table_length};
 
 use tables::places;
 
-// ---- Codes and counted codes, joined
-
-fn counted_code(code: u16, count: u16) -> u16
-    ensures { result ≡ cond (eqb count 1) 0 code }
+// The press of a release, and the release of a press.
+fn other_code(code: u8) -> u8
+    requires { code ≤ 5 }
+    ensures { result ≡ other_code code }
 {
-    if count == 1 { 0 } else { code }
+    code + 1 - 2 * (code % 2)
 }
 
-// The codes of some events, and those of the counted ones among them, each joined by `or`.
-#[derive(Drop)]
-pub struct CodeJoin {
-    pub all: u16,
-    pub counted: u16,
-}
-
-// No early exit, and numbers of 16 bits, so that the loop is compiled to vector instructions.
-fn join_codes(l: &[u8], n: usize) -> CodeJoin
-    requires { (table_length ≤ length l.now) × (n ≤ 256) }
-    ensures { (result.all ≡ joined (code_at l.now) 0 n) × (result.counted ≡ joined (counted_at l.now) 0 n) }
+// Whether one of the first n events has this code. No early exit, and whole words, so that the loop is compiled to vector
+// instructions.
+fn has_code(table: &[u8], n: usize, code: u16) -> bool
+    requires { (table_length ≤ length table.now) × (n ≤ 256) }
+    ensures { result ≡ any_below (has_code table.now code) n }
 {
-    let mut all: u16 = 0;
-    let mut counted: u16 = 0;
+    let mut hit = false;
     let mut i: usize = 0;
     while i < n {
-        let code = words::word_at(l, places::CODES + i);
-        let count = words::word_at(l, places::COUNTS + i);
-        all = all | code;
-        counted = counted | counted_code(code, count);
+        hit = hit | (words::word_at(table, places::CODES + i) == code);
         i += 1;
     }
-    CodeJoin {
-        all: all,
-        counted: counted,
-    }
+    hit
 }
 
-// ---- Codes as bits
-
-fn low_bit(code: u16) -> u32
-    ensures { result ≡ 2 ^ (code % 32) }
+// Whether one of them has this code, or has the other one and is counted: such an event stands for presses and releases. In
+// a whole table every count is at least 1.
+fn has_either(table: &[u8], n: usize, code: u16, other: u16) -> bool
+    requires { (table_length ≤ length table.now) × (n ≤ 256) }
+    ensures { result ≡ any_below (has_either table.now code other) n }
 {
-    1u32 << (code % 32)
-}
-
-fn code_bit(code: u16) -> u64
-    ensures { result ≡ 2 ^ (code % 64) }
-{
-    1u64 << (code % 64)
-}
-
-// Codes below 32. In numbers of 32 bits the loop is compiled to vector instructions.
-fn low_codes(l: &[u8], n: usize) -> u32
-    requires { (table_length ≤ length l.now) × (n ≤ 256) }
-    ensures { result ≡ joined (low_bit l.now) 0 n }
-{
-    let mut codes: u32 = 0;
+    let mut hit = false;
     let mut i: usize = 0;
     while i < n {
-        codes = codes | low_bit(words::word_at(l, places::CODES + i));
+        let own = words::word_at(table, places::CODES + i);
+        let counted = words::word_at(table, places::COUNTS + i) != 1;
+        hit = hit | (own == code) | ((own == other) & counted);
         i += 1;
     }
-    codes
+    hit
 }
 
-// All codes: it takes more than twice as long.
-fn all_codes(l: &[u8], n: usize) -> u64
-    requires { (table_length ≤ length l.now) × (n ≤ 256) }
-    ensures { result ≡ joined (code_bit l.now) 0 n }
-{
-    let mut codes: u64 = 0;
-    let mut i: usize = 0;
-    while i < n {
-        codes = codes | code_bit(words::word_at(l, places::CODES + i));
-        i += 1;
-    }
-    codes
-}
-
-// ---- The set
-
-fn pairs_of(counted: u16) -> u64
-    ensures { result ≡ pairs_of counted }
-{
-    (12 * (counted / 2 % 2) + 48 * (counted / 4 % 2)) as u64
-}
-
-// The types of the first n events.
-pub fn gather(l: &[u8], n: usize) -> u64
-    requires { (table_length ≤ length l.now) × (n ≤ 256) }
-    ensures { result ≡ gathered l.now n }
-{
-    let joined = join_codes(l, n);
-    let pairs = pairs_of(joined.counted);
-    if joined.all < 32 {
-        return (low_codes(l, n) as u64) | pairs;
-    }
-    all_codes(l, n) | pairs
-}
-
-// Whether a table names the type of an event: by the set that it keeps.
+// Whether some production has an event of this type. Only keys and buttons are counted, whose codes are 2 to 5.
 pub fn has_type(table: &[u8], code: u8) -> bool
-    requires { (whole table.now ≡ true) × (code ≤ 34) }
-    ensures { (result ≡ bit code (types_in table.now)) × (result ≡ names_type (decode table.now).productions code) }
+    requires { whole table.now ≡ true }
+    ensures { result ≡ any (has_type code) (decode table.now).productions }
 {
-    (tables::read::types(table) >> code) % 2 == 1
+    let n = tables::read::event_count(table);
+    if 5 < code {
+        return has_code(table, n, code as u16);
+    }
+    has_either(table, n, code as u16, other_code(code) as u16)
 }

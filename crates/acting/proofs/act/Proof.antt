@@ -50,10 +50,7 @@ returns c =
     g.0.0 (sym r.ensures.0 ∙ g.1) c.before.number_of_lem.result (c.before.number_of_lem.ensures ∙ ap record_number r.ensures.0)
 
 has-type-requires : tie.Need-has-type-requires
-has-type-requires c κs =
-    let b = c.before.before.before.before.before.before.before in
-    let g = c.before.read.given in
-    (b.requires.0.0, (read_ranges b.args.«record».now b.args.order g.0.0 (sym c.before.before.before.read-record.ensures.0 ∙ g.1)).code_most)
+has-type-requires c κs = c.before.before.before.before.before.before.before.requires.0.0
 
 returns-2 : tie.Need-returns-2
 returns-2 c =
@@ -61,7 +58,7 @@ returns-2 c =
     let p = b.requires in
     let g = c.before.before.before.read.given in
     dropped_event (decode b.args.table.now) (within b) (setting b) p.0.1.mapped p.0.1.good (call b) b.args.state p.1
-    g.0.0 (sym c.before.before.before.before.before.read-record.ensures.0 ∙ g.1) (sym c.before.has-type.ensures.1 ∙ not-true _ c.if1.true)
+    g.0.0 (sym c.before.before.before.before.before.read-record.ensures.0 ∙ g.1) (sym c.before.has-type.ensures ∙ not-true _ c.if1.true)
 
 heard-requires : tie.Need-heard-requires
 heard-requires c κs =
@@ -76,7 +73,7 @@ returns-3 c =
     let g = c.before.before.before.before.read.given in
     c.heard.ensures
     ∙ heard_event_lem (decode b.args.table.now) (within b) (setting b) p.0.1.mapped p.0.1.good (call b) b.args.state p.1
-    g.0.0 (sym c.before.before.before.before.before.before.read-record.ensures.0 ∙ g.1) (sym c.before.before.has-type.ensures.1 ∙ not-false _ c.before.if1.false)
+    g.0.0 (sym c.before.before.before.before.before.before.read-record.ensures.0 ∙ g.1) (sym c.before.before.has-type.ensures ∙ not-false _ c.before.if1.false)
 
 pub act-spec : {M : Type 1} → statement M
 act-spec =

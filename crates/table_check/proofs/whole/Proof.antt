@@ -1,11 +1,11 @@
 -- `table_check::whole` meets its contract.
 use borrow.Author.Rules.{rules}
-use Rattle.table_check.specs.Checks.{types_ok}
 use Rattle.table_check.proofs.Exact.{checks_exact}
 use Rattle.table_check.proofs.Stops.{checks_short, checks_header, checks_last}
 use Rattle.header_check.proofs.HeaderFacts.{HeaderFacts, header_facts}
+use Rattle.words.specs.Words.{word_at}
 use borrow.Author.Tests.{not-true, not-false}
-use mathlib.Core.Path.{sym, ◌∙◌}
+use mathlib.Core.Path.{◌≡◌, sym, ◌∙◌}
 use native.Mathlib.Omega.{arith}
 use Rattle.table_check.proofs.whole.Statement.{statement}
 use Rattle.table_check.proofs.whole.Tie as tie
@@ -35,24 +35,15 @@ slots-ok-requires c κs =
     let h : HeaderFacts c.before.before.before.before.before.before.args.l.now = header_facts c.before.before.before.before.before.before.args.l.now (sym c.before.before.before.header_ok.ensures ∙ not-false c.before.before.before.header_ok.result c.before.before.if2.false) in
     (search rules, omega (arith, h.events, c.before.word_at.ensures))
 
-types-requires : tie.Need-types-requires
-types-requires c κs = search rules
-
-gather-requires : tie.Need-gather-requires
-gather-requires c κs =
-    let h : HeaderFacts c.before.before.before.before.before.before.before.before.args.l.now = header_facts c.before.before.before.before.before.before.before.before.args.l.now (sym c.before.before.before.before.before.header_ok.ensures ∙ not-false c.before.before.before.before.before.header_ok.result c.before.before.before.before.if2.false) in
-    (search rules, omega (arith, h.events, c.before.before.before.word_at.ensures))
-
 entries-ok-requires : tie.Need-entries-ok-requires
 entries-ok-requires c κs =
-    let h : HeaderFacts c.before.before.before.before.before.before.before.before.before.args.l.now = header_facts c.before.before.before.before.before.before.before.before.before.args.l.now (sym c.before.before.before.before.before.before.header_ok.ensures ∙ not-false c.before.before.before.before.before.before.header_ok.result c.before.before.before.before.before.if2.false) in
+    let h : HeaderFacts c.before.before.before.before.before.before.before.args.l.now = header_facts c.before.before.before.before.before.before.before.args.l.now (sym c.before.before.before.before.header_ok.ensures ∙ not-false c.before.before.before.before.header_ok.result c.before.before.before.if2.false) in
     ((search rules, h.merged), (h.productions, h.events, h.calls, h.parameters))
 
 returns-3 : tie.Need-returns-3
-unfolding types_ok
 returns-3 c =
-    rw (c.before.before.before.before.unused-ok.ensures, c.before.before.before.slots-ok.ensures, c.before.before.types.ensures, c.before.gather.ensures, c.entries-ok.ensures, c.before.before.before.before.before.word_at.ensures)
-    (sym (checks_last c.before.before.before.before.before.before.before.before.before.before.args.l.now (omega arith) (sym c.before.before.before.before.before.before.before.header_ok.ensures ∙ not-false c.before.before.before.before.before.before.before.header_ok.result c.before.before.before.before.before.before.if2.false)) ∙ checks_exact c.before.before.before.before.before.before.before.before.before.before.args.l.now (λ i. omega (arith, c.before.before.before.before.before.before.before.before.before.shared-slice-known.given i)))
+    rw (c.before.before.unused-ok.ensures, c.before.slots-ok.ensures, c.entries-ok.ensures, c.before.before.before.word_at.ensures)
+    (sym (checks_last c.before.before.before.before.before.before.before.before.args.l.now (omega arith) (sym c.before.before.before.before.before.header_ok.ensures ∙ not-false c.before.before.before.before.before.header_ok.result c.before.before.before.before.if2.false)) ∙ checks_exact c.before.before.before.before.before.before.before.before.args.l.now (λ i. omega (arith, c.before.before.before.before.before.before.before.shared-slice-known.given i)))
 
 pub whole-spec : {M : Type 1} → statement M
 whole-spec =
@@ -65,7 +56,5 @@ whole-spec =
     cast-events
     unused-ok-requires
     slots-ok-requires
-    types-requires
-    gather-requires
     entries-ok-requires
     returns-3)

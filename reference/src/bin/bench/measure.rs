@@ -87,7 +87,6 @@ fn run() -> Result<(), String> {
             unchecked / proved
         );
     }
-    checking(&desk);
     println!();
     compiling(&desk);
     Ok(())
@@ -222,30 +221,6 @@ fn prepared(desk: &Desk, records: &[Record], whole: impl Fn(&[u8]) -> bool) -> D
         black_box(answer);
     }
     begun.elapsed()
-}
-
-/// `tt_types` reads the table's set and does nothing else but check it, so what an event takes
-/// beyond that is the matcher's own work.
-fn checking(desk: &Desk) {
-    let proved = nanoseconds_to_check(desk, |bytes| capi::types(bytes).number == 0);
-    let kept = nanoseconds_to_check(desk, layout::is_whole);
-    println!(
-        "{:<30}{proved:>8.0}{:>18}{kept:>7.0}{:>7.1}",
-        "tt_types, the check alone",
-        "",
-        kept / proved
-    );
-}
-
-fn nanoseconds_to_check(desk: &Desk, check: impl Fn(&[u8]) -> bool) -> f64 {
-    let run = || {
-        let begun = Instant::now();
-        for _ in 0..LENGTH {
-            black_box(check(black_box(&desk.bytes)));
-        }
-        begun.elapsed()
-    };
-    least(run).as_nanos() as f64 / LENGTH as f64
 }
 
 fn compiling(desk: &Desk) {

@@ -44,7 +44,6 @@ mod raw {
             out: *mut u8,
             out_length: usize,
         ) -> u64;
-        pub fn tt_types(table: *const u8, length: usize) -> u64;
         pub fn tt_productions(table: *const u8, length: usize) -> u64;
         pub fn tt_calls(table: *const u8, length: usize, production: usize) -> u64;
         pub fn tt_parameters(
@@ -134,11 +133,6 @@ pub fn write(table: &[u8], texts: [&[u8]; 2], out: &mut [u8]) -> Answer {
         )
     }
     .into()
-}
-
-/// The value is a mask: bit c stands for event code c.
-pub fn types(table: &[u8]) -> Answer {
-    unsafe { raw::tt_types(table.as_ptr(), table.len()) }.into()
 }
 
 pub fn productions(table: &[u8]) -> Answer {

@@ -1,6 +1,5 @@
 //! What a comparison went over.
 
-use crate::sets::{SetDamage, SAID};
 use glykorant_reference::Number;
 use std::fmt;
 use std::ops::AddAssign;
@@ -29,13 +28,9 @@ impl Numbers {
 
 impl AddAssign<&Numbers> for Numbers {
     fn add_assign(&mut self, other: &Numbers) {
-        add(&mut self.0, &other.0);
-    }
-}
-
-fn add(sums: &mut [u64], counts: &[u64]) {
-    for (sum, count) in sums.iter_mut().zip(counts) {
-        *sum += count;
+        for (sum, count) in self.0.iter_mut().zip(other.0) {
+            *sum += count;
+        }
     }
 }
 
@@ -73,8 +68,6 @@ pub struct Counts {
     pub texts_of_key_words: u64,
     pub merged: Numbers,
     pub written: Numbers,
-    /// Questions for types.
-    pub types: Numbers,
     /// Questions for counts, names and parameters.
     pub asked: Numbers,
     pub matched: Numbers,
@@ -83,21 +76,11 @@ pub struct Counts {
     /// Of all, calls that heard a motion of a run: directly after another in the history, or with
     /// another directly after it.
     pub matched_in_runs: u64,
-    /// Of all, calls that dropped their event, and calls that heard one of a type that the table
-    /// names only by expansion.
-    pub dropped: u64,
-    pub heard_by_expansion: u64,
     pub selections: u64,
     /// Of these, of a production that has a name.
     pub selections_with_names: u64,
     pub damaged_tables: u64,
     pub whole_damaged_tables: u64,
-    /// Of these, tables that name other types than before.
-    pub retyped_tables: u64,
-    /// Damaged sets of types that every function refused, by `SetDamage::ALL`, and the events that
-    /// the matcher was sent with them, by `SAID`.
-    pub damaged_sets: [u64; SetDamage::ALL.len()],
-    pub damaged_set_events: [u64; SAID.len()],
     pub damaged_states: u64,
     pub whole_damaged_states: u64,
     /// Of these, states that keep events with no context open.
@@ -116,20 +99,14 @@ impl AddAssign<&Counts> for Counts {
         self.texts_of_key_words += other.texts_of_key_words;
         self.merged += &other.merged;
         self.written += &other.written;
-        self.types += &other.types;
         self.asked += &other.asked;
         self.matched += &other.matched;
         self.matched_with_names += other.matched_with_names;
         self.matched_in_runs += other.matched_in_runs;
-        self.dropped += other.dropped;
-        self.heard_by_expansion += other.heard_by_expansion;
         self.selections += other.selections;
         self.selections_with_names += other.selections_with_names;
         self.damaged_tables += other.damaged_tables;
         self.whole_damaged_tables += other.whole_damaged_tables;
-        self.retyped_tables += other.retyped_tables;
-        add(&mut self.damaged_sets, &other.damaged_sets);
-        add(&mut self.damaged_set_events, &other.damaged_set_events);
         self.damaged_states += other.damaged_states;
         self.whole_damaged_states += other.whole_damaged_states;
         self.closed_damaged_states += other.closed_damaged_states;
@@ -144,7 +121,6 @@ impl Counts {
             .each_of(&[0, 1, 2, 3, 4, 5, 6, 7, 8, 9, 10, 11])
             && self.merged.each_of(&[0, 1, 11, 12, 17])
             && self.written.each_of(&[0, 1, 12])
-            && self.types.each_of(&[0, 1, 12])
             && self.asked.each_of(&[0, 1, 12, 16])
             && self.matched.each_of(&[0, 1, 12, 13, 14, 18])
             && self.texts_with_names >= 450_000
@@ -159,15 +135,10 @@ impl Counts {
             && self.matched.total() >= 3_000_000
             && self.matched_with_names >= 3_000_000
             && 3 * self.matched_in_runs >= self.matched.total()
-            && self.dropped >= 100_000
-            && self.heard_by_expansion >= 50_000
             && self.selections >= 500_000
             && self.selections_with_names >= 300_000
             && damaged >= 100_000
             && self.whole_damaged_tables >= 10_000
-            && self.retyped_tables >= 5_000
-            && self.damaged_sets.iter().all(|&sets| sets >= 2_000)
-            && self.damaged_set_events.iter().all(|&events| events >= 20_000)
             && self.whole_damaged_states >= 10_000
             && self.closed_damaged_states >= 5_000
     }
@@ -188,36 +159,17 @@ impl fmt::Display for Counts {
         writeln!(out, "    of words    {}", self.texts_of_key_words)?;
         writeln!(out, "merges          {}", self.merged)?;
         writeln!(out, "writes          {}", self.written)?;
-        writeln!(out, "types           {}", self.types)?;
         writeln!(out, "questions       {}", self.asked)?;
         writeln!(out, "matcher calls   {}", self.matched)?;
         writeln!(out, "  with names    {}", self.matched_with_names)?;
         writeln!(out, "  in runs       {}", self.matched_in_runs)?;
-        writeln!(
-            out,
-            "  dropped       {}, heard only by expansion {}",
-            self.dropped, self.heard_by_expansion
-        )?;
         writeln!(out, "  selections    {}", self.selections)?;
         writeln!(out, "    with names  {}", self.selections_with_names)?;
         writeln!(
             out,
-            "damaged tables  {}, still whole {}, of these with other types {}",
-            self.damaged_tables, self.whole_damaged_tables, self.retyped_tables
+            "damaged tables  {}, still whole {}",
+            self.damaged_tables, self.whole_damaged_tables
         )?;
-        let sets: u64 = self.damaged_sets.iter().sum();
-        write!(
-            out,
-            "damaged sets    {sets}, each refused by every function"
-        )?;
-        for (damage, count) in SetDamage::ALL.into_iter().zip(self.damaged_sets) {
-            write!(out, ", {damage:?} {count}")?;
-        }
-        let events = SAID.iter().zip(self.damaged_set_events);
-        let events: Vec<String> = events
-            .map(|((said, _), count)| format!("{said} {count}"))
-            .collect();
-        writeln!(out, "\n  events        {}", events.join(", "))?;
         write!(
             out,
             "damaged states  {}, still whole {}, of these with no context open {}",

@@ -5,7 +5,7 @@ use crate::tables::{Compared, Comparison, Given, LentTexts};
 use glykorant_reference::calls::Texts;
 use glykorant_reference::generate::events;
 use glykorant_reference::layout::sections::*;
-use glykorant_reference::layout::{self, Section, Used, STATE_BYTES, TABLE_BYTES};
+use glykorant_reference::layout::{Section, Used, STATE_BYTES, TABLE_BYTES};
 use glykorant_reference::names::{BUTTON_PRESS, BUTTON_RELEASE, ENTER_NOTIFY, MOTION_NOTIFY};
 use glykorant_reference::Table;
 
@@ -41,20 +41,12 @@ impl Comparison {
         };
         let mut bytes = given.lent.bytes().to_vec();
         self.damage_table(&mut bytes, &Used::of(table));
-        // Other codes and counts mostly name other types: with their set the table stays whole.
-        if self.random.percent(50) {
-            if let Some(types) = layout::named_types(&bytes) {
-                layout::put_types(&mut bytes, types);
-            }
-        }
         if bytes == given.lent.bytes() {
             return Ok(());
         }
         let damaged = Given::new(&mut self.random, &bytes);
-        let whole = damaged.table.is_ok();
         self.counts.damaged_tables += 1;
-        self.counts.whole_damaged_tables += u64::from(whole);
-        self.counts.retyped_tables += u64::from(whole && damaged.types() != given.types());
+        self.counts.whole_damaged_tables += u64::from(damaged.table.is_ok());
         let lent = LentTexts::new(&mut self.random, texts);
         self.read(&damaged, &lent)?;
         match self.random.percent(50) {
@@ -92,7 +84,6 @@ impl Comparison {
                 }
                 3 => self.change_flags(bytes, used),
                 4 => self.change_slot(bytes, used),
-                5 => self.change_type(bytes, used),
                 _ => {
                     let at = self.used_word(used);
                     self.change_word(bytes, at);
@@ -121,17 +112,6 @@ impl Comparison {
         let at = FLAGS.first + self.random.below(used.events.max(1));
         let bit = self.random.below(16);
         bytes[2 * at + bit / 8] ^= 1 << (bit % 8);
-    }
-
-    /// Gives an event another code or count.
-    fn change_type(&mut self, bytes: &mut [u8], used: &Used) {
-        let event = self.random.below(used.events.max(1));
-        let (section, value) = match self.random.percent(50) {
-            true => (CODE, self.random.range(2, 34)),
-            false => (COUNT, self.random.range(1, 3)),
-        };
-        let at = 2 * (section.first + event);
-        bytes[at..at + 2].copy_from_slice(&(value as u16).to_le_bytes());
     }
 
     /// Changes a keysym slot of an event: the first unused one, or any. It becomes a number at

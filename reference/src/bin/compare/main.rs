@@ -17,11 +17,7 @@ mod matching;
 #[cfg(archive)]
 mod run;
 #[cfg(archive)]
-mod sets;
-#[cfg(archive)]
 mod tables;
-#[cfg(archive)]
-mod types;
 #[cfg(archive)]
 mod vectors;
 #[cfg(archive)]

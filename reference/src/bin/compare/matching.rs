@@ -5,7 +5,7 @@ use crate::lent::Lent;
 use crate::tables::{answers, ensure, Compared, Comparison, Given};
 use glykorant_reference::generate::events::{self, EventList, RecordCall};
 use glykorant_reference::layout::{self, State, STATE_BYTES};
-use glykorant_reference::{read_record, BoundedMatcher, Maps, Matcher, Number, Table};
+use glykorant_reference::{BoundedMatcher, Maps, Matcher, Number, Table};
 
 /// The maps, with what their bytes are, and a multi-click time, as the calls of a list share them.
 pub struct Keys {
@@ -148,20 +148,11 @@ impl Comparison {
         answers("match", answer, number, value)?;
         if let (Number::Accepted, Ok(bounded)) = (number, &running.bounded) {
             running.state.expect(&layout::encode_state(bounded.kept()));
-            self.count_type(given, call);
         }
         running.state.check("the state")?;
         self.counts.selections += u64::from(selected.is_some());
         self.counts.selections_with_names += u64::from(given.selects_names(selected));
         Ok(selected)
-    }
-
-    /// Counts an accepted call by what the table's set says of the event's type.
-    fn count_type(&mut self, given: &Given, call: &RecordCall) {
-        if let Ok(event) = read_record(&call.record, call.order) {
-            self.counts.dropped += u64::from(!given.types().contains(event.code));
-            self.counts.heard_by_expansion += u64::from(given.expands_to(event.code));
-        }
     }
 
     /// A list of calls from a fresh state on, with damaged states and refused calls in between.

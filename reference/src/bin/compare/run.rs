@@ -4,10 +4,8 @@ use crate::capi;
 use crate::counts::Counts;
 use crate::keys;
 use crate::tables::{ensure, Compared, Comparison, Given};
-use crate::types;
 use crate::vectors;
 use crate::words;
-use glykorant_reference::calls::Texts;
 use glykorant_reference::generate::{self, Case, Text};
 use glykorant_reference::layout::{STATE_BYTES, TABLE_BYTES};
 use glykorant_reference::random::Random;
@@ -65,8 +63,8 @@ fn parse(arguments: &[String]) -> Option<Option<(u64, u64)>> {
     }
 }
 
-/// The worked examples, the sets of types, the names and the words next to them, the keysyms, then
-/// all cases of each seed.
+/// The worked examples, the names and the words next to them, the keysyms, then all cases of each
+/// seed.
 fn compare(runs: &[(u64, u64)]) -> Compared<Counts> {
     let lengths = (capi::table_length(), capi::state_length());
     ensure(lengths == (TABLE_BYTES, STATE_BYTES), || {
@@ -74,7 +72,6 @@ fn compare(runs: &[(u64, u64)]) -> Compared<Counts> {
     })?;
     let mut examples = Comparison::new(Random::new(0, 0));
     vectors::run(&mut examples)?;
-    types::run(&mut examples)?;
     words::run(&mut examples)?;
     keys::run(&mut examples)?;
     let mut counts = examples.counts;
@@ -142,7 +139,7 @@ fn compare_case(comparison: &mut Comparison, case: &Case) -> Compared<()> {
                 return Ok(());
             };
             comparison.list(&given, list)?;
-            damage(comparison, &given, texts)?;
+            comparison.damaged_table(&given, [texts[0], texts[1]])?;
         }
     }
     Ok(())
@@ -164,7 +161,7 @@ fn text_case(comparison: &mut Comparison, text: &Text) -> Compared<Option<Given>
     if comparison.random.percent(10) {
         comparison.read_short(&given, &texts)?;
     }
-    damage(comparison, &given, [bytes, second])?;
+    comparison.damaged_table(&given, [bytes, second])?;
     Ok(Some(given))
 }
 
@@ -172,16 +169,7 @@ fn merged_case(comparison: &mut Comparison, merged: &Given, texts: [&Text; 2]) -
     let [old, new] = texts;
     let lent = comparison.lend_texts(&old.bytes, &new.bytes);
     comparison.read(merged, &lent)?;
-    damage(comparison, merged, [&old.bytes, &new.bytes])
-}
-
-/// Goes over a damaged copy of a table, and at times over one in which only the set of types is.
-fn damage(comparison: &mut Comparison, given: &Given, texts: Texts) -> Compared<()> {
-    comparison.damaged_table(given, texts)?;
-    match comparison.random.percent(25) {
-        true => comparison.damaged_set(given, texts),
-        false => Ok(()),
-    }
+    comparison.damaged_table(merged, [&old.bytes, &new.bytes])
 }
 
 /// "A table to merge is itself merged": 17, whichever of the two it is.

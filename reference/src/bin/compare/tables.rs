@@ -10,9 +10,7 @@ use glykorant_reference::limits::TEXT_BYTES;
 use glykorant_reference::names::{self, Modifier};
 use glykorant_reference::random::Random;
 use glykorant_reference::text::{self, Description, ModifierName, WrittenEvent};
-use glykorant_reference::{
-    compile, merge, write, Number, Production, Refusal, Span, Table, TypeSet,
-};
+use glykorant_reference::{compile, merge, write, Number, Production, Refusal, Span, Table};
 
 /// What is compared, or how the two implementations differ.
 pub type Compared<T> = Result<T, String>;
@@ -35,23 +33,12 @@ pub fn answers(what: &str, found: Answer, number: Number, value: u64) -> Compare
     })
 }
 
-/// The library's answer is this value, or this number with the value 0.
-fn value_answer(what: &str, found: Answer, expected: Result<u64, Number>) -> Compared<()> {
-    match expected {
-        Ok(value) => answers(what, found, Number::Accepted, value),
-        Err(number) => answers(what, found, number, 0),
-    }
-}
-
 /// A lent table, and what its bytes are: a table, or refused with 1 or 12.
 pub struct Given {
     pub lent: Lent,
     pub table: Result<Table, Number>,
     /// Whether each production has a name.
     named: Vec<bool>,
-    /// The types that the table names, and those that it names without expansion.
-    types: TypeSet,
-    written_types: TypeSet,
 }
 
 fn named(table: &Table) -> Vec<bool> {
@@ -68,35 +55,11 @@ impl Given {
             true => Err(Number::ShortBuffer),
             false => layout::decode(bytes).ok_or(Number::TableNotWhole),
         };
-        Given::of(Lent::new(random, bytes), table)
-    }
-
-    fn of(lent: Lent, table: Result<Table, Number>) -> Given {
-        let (named, types, written_types) = match &table {
-            Ok(table) => (
-                named(table),
-                TypeSet::named_by(table),
-                table.events().map(|spec| spec.code).collect(),
-            ),
-            Err(_) => (Vec::new(), TypeSet::default(), TypeSet::default()),
-        };
         Given {
-            lent,
+            lent: Lent::new(random, bytes),
+            named: table.as_ref().map_or_else(|_| Vec::new(), named),
             table,
-            named,
-            types,
-            written_types,
         }
-    }
-
-    /// The types that the table names, none where it is refused.
-    pub fn types(&self) -> TypeSet {
-        self.types
-    }
-
-    /// Whether the table names a type, but only by expansion.
-    pub fn expands_to(&self, code: u8) -> bool {
-        self.types.contains(code) && !self.written_types.contains(code)
     }
 
     /// Whether the table has a name.
@@ -196,7 +159,7 @@ impl Comparison {
         match expected {
             Ok(table) => {
                 answers("compile", answer, Number::Accepted, 0)?;
-                self.accept(lent, &table).map(Some)
+                accepted(lent, &table).map(Some)
             }
             Err(Refusal { number, place }) => {
                 answers("compile", answer, number, place as u64)?;
@@ -212,16 +175,6 @@ impl Comparison {
             true => self.random.below(TABLE_BYTES),
             false => self.long_enough(),
         };
-        self.merge_into(old, new, length)
-    }
-
-    /// Merges two tables into a buffer that is long enough.
-    pub fn merge_with_room(&mut self, old: &Given, new: &Given) -> Compared<Option<Given>> {
-        let length = self.long_enough();
-        self.merge_into(old, new, length)
-    }
-
-    fn merge_into(&mut self, old: &Given, new: &Given, length: usize) -> Compared<Option<Given>> {
         let mut lent = Lent::any(&mut self.random, length);
         let answer = capi::merge(old.lent.bytes(), new.lent.bytes(), lent.bytes_mut());
         self.counts.merged.count(answer.number);
@@ -235,7 +188,7 @@ impl Comparison {
         match expected {
             Ok(table) => {
                 answers("merge", answer, Number::Accepted, 0)?;
-                self.accept(lent, &table).map(Some)
+                accepted(lent, &table).map(Some)
             }
             Err(number) => {
                 answers("merge", answer, number, 0)?;
@@ -243,14 +196,6 @@ impl Comparison {
                 Ok(None)
             }
         }
-    }
-
-    /// A table that was accepted: its bytes, and the types that it is said to name.
-    fn accept(&mut self, lent: Lent, table: &Table) -> Compared<Given> {
-        let given = accepted(lent, table)?;
-        self.ask_types(&given)?;
-        given.check()?;
-        Ok(given)
     }
 
     /// Writes a table into a buffer of any length.
@@ -302,9 +247,8 @@ impl Comparison {
         out.check("the written text")
     }
 
-    /// Asks for the types, and for every count, name and parameter and some that are not there.
+    /// Asks for every count, name and parameter, and for some that are not there.
     pub fn ask(&mut self, given: &Given, texts: &LentTexts) -> Compared<()> {
-        self.ask_types(given)?;
         self.ask_productions(given)?;
         let calls: Vec<Vec<usize>> = match &given.table {
             Ok(table) => shape(table),
@@ -339,12 +283,6 @@ impl Comparison {
         let which = self.random.below(3);
         place[which] = place[which].wrapping_add(*self.random.pick(&far));
         place
-    }
-
-    fn ask_types(&mut self, given: &Given) -> Compared<()> {
-        let found = capi::types(given.lent.bytes());
-        self.counts.types.count(found.number);
-        value_answer("types", found, given.table().map(|_| given.types.mask))
     }
 
     fn ask_productions(&mut self, given: &Given) -> Compared<()> {
@@ -395,7 +333,10 @@ impl Comparison {
         expected: Result<usize, Number>,
     ) -> Compared<()> {
         self.counts.asked.count(found.number);
-        value_answer(what, found, expected.map(|count| count as u64))
+        match expected {
+            Ok(count) => answers(what, found, Number::Accepted, count as u64),
+            Err(number) => answers(what, found, number, 0),
+        }
     }
 
     /// 256 × which text + 65,536 × start + 2^32 × length, of which 256 is taken off already.
@@ -406,10 +347,13 @@ impl Comparison {
         expected: Result<Part, Number>,
     ) -> Compared<()> {
         self.counts.asked.count(found.number);
-        let value = |Part { text, span }| {
-            text as u64 + ((span.start as u64) << 8) + ((span.length as u64) << 24)
-        };
-        value_answer(what, found, expected.map(value))
+        match expected {
+            Ok(Part { text, span }) => {
+                let value = text as u64 + ((span.start as u64) << 8) + ((span.length as u64) << 24);
+                answers(what, found, Number::Accepted, value)
+            }
+            Err(number) => answers(what, found, number, 0),
+        }
     }
 
     /// Texts as they are, longer, or too short by a little, which is 12 where the table keeps
@@ -517,21 +461,16 @@ fn refused(mut lent: Lent, number: Number) -> Compared<()> {
 
 /// The bytes are those of this table, but for the starts of empty parts, which 01 leaves open.
 fn accepted(mut lent: Lent, table: &Table) -> Compared<Given> {
-    let found = layout::decode(lent.bytes()).ok_or_else(|| not_whole(lent.bytes()))?;
+    let found = layout::decode(lent.bytes()).ok_or("an accepted table is not whole")?;
     let same = without_empty_starts(&found) == without_empty_starts(table);
     ensure(same, || format!("{found:?} and not {table:?}"))?;
     lent.expect(&layout::encode(&found));
     lent.check("the output table")?;
-    Ok(Given::of(lent, Ok(found)))
-}
-
-fn not_whole(bytes: &[u8]) -> String {
-    let named = layout::named_types(bytes);
-    let of_set = named.map(|named| format!(": it names the types {named:?}"));
-    format!(
-        "an accepted table is not whole{}",
-        of_set.unwrap_or_default()
-    )
+    Ok(Given {
+        lent,
+        named: named(&found),
+        table: Ok(found),
+    })
 }
 
 fn without_empty_starts(table: &Table) -> Table {

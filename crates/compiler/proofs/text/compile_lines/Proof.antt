@@ -85,7 +85,7 @@ returns-2 c =
     let s = c.before.before.before.before.before.before.next.given.0.0 in
     let x = came c.before.before.before.before.before.before.before.before.before.before (LineDone.Done s) c.before.before.before.before.before.before.next.given.1 in
     let e = next_last _ _ _ _ x c.before.before.before.before.before.before.before.before.before.before.before.before.line-end.result c.before.before.before.before.before.before.before.before.before.before.before.before.line-end.ensures c.before.before.before.before.if1.true in
-    (ap outcome_answer (sym e), accepted_bytes text c.before.before.before.before.before.before.before.before.before.before.do-line.new.1.1.1.0 c.before.before.write-header.new.0 s c.before.before.before.before.before.before.before.before.before.before.before.before.before.loop.at x (λ i. omega (arith, c.before.before.before.before.before.before.before.before.before.before.before.before.before.before.before.before.before.before.before.before.shared-slice-known.given i)) c.before.before.before.before.before.before.before.before.before.before.before.before.before.before.before.before.before.before.before.before.before.requires.1 e c.before.before.write-header.ensures)
+    (ap outcome_answer (sym e), accepted_bytes text c.before.before.before.before.before.before.before.before.before.before.do-line.new.1.1.1.0 c.before.before.write-header.new.0 s c.before.before.before.before.before.before.before.before.before.before.before.before.before.loop.at x e c.before.before.write-header.ensures)
 
 add_at : tie.Need-overflow-add-at invariant-loop decreases-loop
 add_at c = search rules
