@@ -1,4 +1,6 @@
 // A call on a table and a state that were found whole.
+#![tactic(auto)]
+
 ghost use Rattle.std.specs.Prelude.{◌≡◌, true};
 ghost use Rattle.model.specs.Numbers.{record_number};
 ghost use Rattle.machine.specs.Kept.{stepped};
@@ -15,7 +17,7 @@ use model::answers::{Matched, RecordRead};
 use states::State;
 
 // What a call answers, and the state for the next call.
-#[derive(Drop)]
+#[derive(Clone, Copy)]
 pub struct Answer {
     pub matched: Matched,
     pub state: State,

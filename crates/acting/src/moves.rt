@@ -23,7 +23,7 @@ use states::{State, slots};
 use walk::Passed;
 
 // What is left when an event takes its place: how many events, how many of them are used up, and whether a context is open.
-#[derive(Drop)]
+#[derive(Clone, Copy)]
 pub struct Left {
     pub kept: usize,
     pub selected: usize,

@@ -8,7 +8,7 @@ use model::scan::{CallRead, ParameterRead};
 use scanner::bytes::{byte_at, skip};
 
 // The parameters after an opening bracket: none, or where the first begins.
-#[derive(Drop)]
+#[derive(Clone, Copy)]
 pub enum ParametersOpen {
     Empty(usize),
     First(usize),
@@ -26,7 +26,7 @@ pub fn open_parameters(l: &[u8], at: usize) -> ParametersOpen
 }
 
 // How many parameters a call has, and where reading goes on past its closing bracket.
-#[derive(Drop)]
+#[derive(Clone, Copy)]
 pub enum ParametersRead {
     Broken,
     Parameters { count: usize, next: usize },
@@ -76,7 +76,7 @@ pub fn read_parameters(l: &[u8], at: usize) -> ParametersRead
 }
 
 // The next call: where its name stands, how many parameters it has, and where the call after it may begin.
-#[derive(Drop)]
+#[derive(Clone, Copy)]
 pub enum CallSpans {
     Broken,
     End,
@@ -117,7 +117,7 @@ pub fn larger(a: usize, b: usize) -> usize
 }
 
 // The calls of a line: how many, how many parameters they have in all, and the most that one of them has.
-#[derive(Drop)]
+#[derive(Clone, Copy)]
 pub enum RightRead {
     Broken,
     Right {

@@ -1,4 +1,6 @@
 // Calls as they are written, their names and parameters copied from the text that each came from.
+#![tactic(auto)]
+
 ghost use Rattle.std.specs.Prelude.{cond, ◌+◌, ◌≤◌, ◌<◌, length};
 ghost use Rattle.words.specs.Runs.{run};
 ghost use Rattle.model.specs.Lists.{bytes};

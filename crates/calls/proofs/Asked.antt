@@ -153,6 +153,9 @@ module _ (l : List ℕ) where
   unfolding call_total
   calls_below w = (whole_facts l w).header.calls
 
+  pub called_below : (p c i : ℕ) → whole l ≡ true → place_of l p c ≡ Place.At i → i < 128
+  called_below p c i w e = omega (arith, place_below p c i w e, calls_below w)
+
   -- ---- Where
 
   pub name_here : (p c i : ℕ) → place_of l p c ≡ Place.At i → located_name (decode l) p c ≡ located (mark_entry l i) (name_entry l i)

@@ -58,15 +58,13 @@ module _ (table : List ℕ) where
 
   -- an answer's number and count
   pub counted : (asked r : Counted) → r ≡ count_answer table asked
-      → (r ≡ count_answer table asked) × ((counted_number r ≡ count_number table asked) × CountValue asked r)
+      → record { answer : r ≡ count_answer table asked; number : counted_number r ≡ count_number table asked; count : CountValue asked r }
   unfolding count_answer count_number
-  counted asked r e = (
-    e,
-    (
-      ap counted_number e ∙ count_number_lem (is_short table) (table_broken table) asked,
-      subst (CountValue asked) (sym e) (count_value_lem (count_number table asked) asked),
-    ),
-  )
+  counted asked r e = record {
+    answer = e;
+    number = ap counted_number e ∙ count_number_lem (is_short table) (table_broken table) asked;
+    count = subst (CountValue asked) (sym e) (count_value_lem (count_number table asked) asked);
+  }
 
   pub count_passed : (asked : Counted) → table_refusal table ≡ 0 → count_answer table asked ≡ settled_count asked
   unfolding table_refusal count_answer count_number
@@ -131,15 +129,13 @@ module _ (table first second : List ℕ) where
 
   -- an answer's number and values
   pub answered : (asked r : Located) → r ≡ place_answer table first second asked
-      → (r ≡ place_answer table first second asked) × ((located_number r ≡ place_number table first second asked) × PlaceValues asked r)
+      → record { answer : r ≡ place_answer table first second asked; number : located_number r ≡ place_number table first second asked; values : PlaceValues asked r }
   unfolding place_answer place_number
-  answered asked r e = (
-    e,
-    (
-      ap located_number e ∙ place_number_lem (is_short table) (lent_not_whole table first second) asked,
-      subst (PlaceValues asked) (sym e) (place_values (place_number table first second asked) asked),
-    ),
-  )
+  answered asked r e = record {
+    answer = e;
+    number = ap located_number e ∙ place_number_lem (is_short table) (lent_not_whole table first second) asked;
+    values = subst (PlaceValues asked) (sym e) (place_values (place_number table first second asked) asked);
+  }
 
   pub place_passed : (asked : Located) → lent_refusal table first second ≡ 0
       → place_answer table first second asked ≡ settled_place asked

@@ -1,5 +1,7 @@
 // How many productions, calls and parameters a table has, and where a call's name or a parameter stands, as a part of the
 // text. Any bytes may be lent: what is no table is refused.
+#![tactic(auto)]
+
 ghost use Rattle.std.specs.Prelude.{◌≡◌, true};
 ghost use Rattle.model.specs.Numbers.{counted_number, located_number};
 ghost use Rattle.model.specs.Asking.{located, production_count, call_count, parameter_count, located_name, located_parameter};
@@ -14,7 +16,7 @@ use model::answers::{Counted, Located};
 use model::scan::Span;
 
 // The place of a call among all calls of the table.
-#[derive(Drop)]
+#[derive(Clone, Copy)]
 pub enum Place {
     At(usize),
     Nothing,

@@ -1,5 +1,7 @@
 // The library for C: each function takes numbers and byte slices, a slice being a pointer and a length. Any bytes may be
 // lent. include/glykorant.h declares them.
+#![tactic(auto)]
+
 mod answers;
 mod state;
 

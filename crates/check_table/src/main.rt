@@ -1,42 +1,41 @@
 // Checks a table's text: reads it from standard input and writes its canonical text, or one line that says why and where it is
 // refused. That line begins with document 01's number, and no line of a canonical text begins with a digit.
+#![tactic(auto)]
+
 mod place;
 
-use crate::place::line_at;
-use libc::{STDIN_FILENO, STDOUT_FILENO};
-use model::answers::{Compiled, Written};
+ghost use Rattle.std.specs.Prelude.{◌≤◌, length};
 
-fn put(bytes: &[u8]) {
-    io::write_all(STDOUT_FILENO, bytes);
-}
+use crate::place::line_at;
+use model::answers::{Compiled, Written};
+use std::io::{self, Read, Write};
+
+// A buffer that is longer than any text that is accepted, and than any canonical text.
+const BUFFER_LENGTH: usize = 65536;
 
 // A refusal's number in plain words. The compiler gives 2 to 11 here, since the table's buffer is long enough.
-fn put_reason(number: u8) {
+fn put_reason(out: &mut impl Write, number: u8) -> io::Result<()> {
     match number {
-        2 => put(b"the text is longer than 8,192 bytes"),
-        3 => put(b"this byte may not stand in a table's text"),
-        4 => put(b"the line is not in the grammar"),
-        5 => put(b"an unknown modifier, event type or detail, or a detail where none is taken"),
-        6 => put(b"a count or a number is out of range"),
-        7 => put(b"modifiers stand before an event type that takes none"),
-        8 => put(b"no state of the modifiers meets this event"),
-        9 => put(b"a colon stands before an event that is no key event, or beside Shift or Lock"),
-        10 => put(b"counts with + and atoms as details are not supported yet"),
-        11 => put(b"too many productions, events, calls or parameters, or keysyms in an event"),
-        _ => put(b"the text is refused"),
+        2 => out.write_all(b"the text is longer than 8,192 bytes"),
+        3 => out.write_all(b"this byte may not stand in a table's text"),
+        4 => out.write_all(b"the line is not in the grammar"),
+        5 => out.write_all(b"an unknown modifier, event type or detail, or a detail where none is taken"),
+        6 => out.write_all(b"a count or a number is out of range"),
+        7 => out.write_all(b"modifiers stand before an event type that takes none"),
+        8 => out.write_all(b"no state of the modifiers meets this event"),
+        9 => out.write_all(b"a colon stands before an event that is no key event, or beside Shift or Lock"),
+        10 => out.write_all(b"counts with + and atoms as details are not supported yet"),
+        11 => out.write_all(b"too many productions, events, calls or parameters, or keysyms in an event"),
+        _ => out.write_all(b"the text is refused"),
     }
 }
 
 // For example: 4 at byte 120, line 3: the line is not in the grammar. Bytes are counted from 0, lines from 1.
-fn put_refusal(text: &[u8], number: u8, place: usize) {
-    io::print_decimal(STDOUT_FILENO, number as u64);
-    put(b" at byte ");
-    io::print_decimal(STDOUT_FILENO, place as u64);
-    put(b", line ");
-    io::print_decimal(STDOUT_FILENO, line_at(text, place));
-    put(b": ");
-    put_reason(number);
-    put(b"\n");
+fn put_refusal(out: &mut impl Write, text: &[u8], number: u8, place: usize) -> io::Result<()> {
+    let line = line_at(text, place);
+    write!(out, "{number} at byte {place}, line {line}: ")?;
+    put_reason(out, number)?;
+    out.write_all(b"\n")
 }
 
 // The canonical text has less than 49,000 bytes, so 65,536 are always enough: for each of 256 events a type of 18 bytes, a count of
@@ -44,43 +43,60 @@ fn put_refusal(text: &[u8], number: u8, place: usize) {
 // `~Shift` and a blank, three and a half times the text's 8,192 bytes and three more an event; a colon and a newline for each of
 // 64 productions, a blank and two brackets for each of 128 calls, two quotes and a comma for each of 256 parameters; and the
 // names and parameters of calls, which are parts of the text.
-fn put_canonical(table: &[u8], text: &[u8]) {
-    let mut out = io::large_buffer();
-    let written = printer::write(table, text, text, &mut out);
+fn put_canonical(out: &mut impl Write, table: &[u8], text: &[u8]) -> io::Result<()> {
+    let mut canonical = [0u8; BUFFER_LENGTH];
+    let written = printer::write(table, text, text, &mut canonical);
     match written {
-        Written::Accepted(n) => put_first(&out, n),
-        Written::Refused(number) => put_refusal(text, number, 0),
+        Written::Accepted(n) => put_first(out, &canonical, n),
+        Written::Refused(number) => put_refusal(out, text, number, 0),
     }
 }
 
 // The first n bytes.
-fn put_first(bytes: &[u8], n: usize) {
+fn put_first(out: &mut impl Write, bytes: &[u8], n: usize) -> io::Result<()> {
     if n <= bytes.len() {
-        put(&bytes[0..n]);
+        out.write_all(&bytes[0..n])?;
     }
+    Ok(())
 }
 
-fn check(text: &[u8]) {
+fn check(out: &mut impl Write, text: &[u8]) -> io::Result<()> {
     let mut table = [0u8; tables::TABLE_LENGTH];
     match compiler::compile(text, &mut table) {
-        Compiled::Accepted => put_canonical(&table, text),
-        Compiled::Refused { number, place } => put_refusal(text, number, place),
+        Compiled::Accepted => put_canonical(out, &table, text),
+        Compiled::Refused { number, place } => put_refusal(out, text, number, place),
     }
 }
 
-// Whether standard input can be read, as a folder or a closed one cannot: a read of no bytes does not fail.
-fn is_readable() -> bool {
+// Whether the input can be read, as a folder or a closed one cannot: a read of no bytes does not fail.
+fn is_readable(input: &mut impl Read) -> bool {
     let mut none = [0u8; 1];
-    libc::read(STDIN_FILENO, &mut none[..0]) >= 0
+    input.read(&mut none[..0]).is_ok()
+}
+
+// Reads until the buffer is full, the input ends or a read fails, and says how many bytes it put at the buffer's start.
+fn read_full(input: &mut impl Read, buffer: &mut [u8]) -> usize
+    ensures { result ≤ length buffer.new }
+{
+    let mut done = 0;
+    while done < buffer.len() {
+        match input.read(&mut buffer[done..]) {
+            Ok(0) => break,
+            Ok(n) => done += n,
+            Err(_) => break,
+        }
+    }
+    done
 }
 
 // The buffer is longer than any text that is accepted, so a longer text is seen to be too long.
-fn main() {
-    if !is_readable() {
-        put(b"standard input cannot be read\n");
-        return;
+fn main(rt: HostRuntime) -> io::Result<()> {
+    let mut input = rt.stdin();
+    let mut out = io::writer(&rt);
+    if !is_readable(&mut input) {
+        return out.write_all(b"standard input cannot be read\n");
     }
-    let mut text = io::large_buffer();
-    let n = io::read_full(STDIN_FILENO, &mut text);
-    check(&text[..n]);
+    let mut text = [0u8; BUFFER_LENGTH];
+    let n = read_full(&mut input, &mut text);
+    check(&mut out, &text[..n])
 }

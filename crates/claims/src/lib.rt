@@ -1,1 +1,3 @@
 // The claims that no single call states. specs/ words them, and proofs/ shows them.
+#![tactic(auto)]
+

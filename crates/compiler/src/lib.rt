@@ -1,5 +1,7 @@
 // The compiler: from text to a table in lent memory, line by line. The events and calls of a line are written as they
 // are read, its production once the whole line is judged. A refusal clears the table.
+#![tactic(auto)]
+
 mod line;
 mod text;
 

@@ -21,14 +21,14 @@ use scanner::lines::is_blank_line;
 use tables::write::put_production;
 
 // What the lines so far came to.
-#[derive(Drop)]
+#[derive(Clone, Copy)]
 pub struct Progress {
     pub directive: Directive,
     pub totals: Totals,
 }
 
 // What one more line came to.
-#[derive(Drop)]
+#[derive(Clone, Copy)]
 pub enum LineDone {
     Refused(u8),
     Done(Progress),

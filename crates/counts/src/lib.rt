@@ -1,4 +1,6 @@
 // Counts and time: what a counted event stands for, and the multi-click time.
+#![tactic(auto)]
+
 ghost use Rattle.std.specs.Prelude.{◌≡◌, ◌<◌, ◌≤◌};
 ghost use Rattle.model.specs.Counts.{quick};
 ghost use Rattle.counts.specs.Elements.{releases, element_count, element_code, is_timed};

@@ -2,9 +2,11 @@
 // bar, and where it ends the cap is set. A recorded run of events is matched against the table, and each call that is selected is printed. The third click does not pair with the
 // second, two clicks across the wrap of the server's 32-bit clock pair only where they are quick, Caps Lock changes nothing, and
 // Meta is whichever modifier the keyboard has it on.
-use libc::STDOUT_FILENO;
+#![tactic(auto)]
+
 use model::answers::{Compiled, Matched};
 use states::State;
+use std::io::{self, Write};
 
 // Two presses less than this many milliseconds apart are a double click.
 const MULTI_CLICK_TIME: u32 = 200;
@@ -43,10 +45,6 @@ const MOD1_ROW: usize = 3;
 
 const MOD4_ROW: usize = 6;
 
-fn put(bytes: &[u8]) {
-    io::write_all(STDOUT_FILENO, bytes);
-}
-
 // A key or button event as the server sends it, least significant byte first.
 fn record(code: u8, detail: u8, modifiers: u8, time: u32) -> [u8; 32] {
     let mut r = [0u8; 32];
@@ -81,60 +79,85 @@ fn keyboard(meta_row: usize) -> [u8; 1992] {
 }
 
 // The first call of the production that was selected.
-fn show(table: &[u8], text: &[u8], label: &[u8], matched: Matched) {
+fn show(
+    out: &mut impl Write,
+    table: &[u8],
+    text: &[u8],
+    label: &[u8],
+    matched: Matched,
+) -> io::Result<()> {
     let Matched::Selected(p) = matched else {
-        return;
+        return Ok(());
     };
-    put(label);
-    put(b": ");
-    put(calls::name(table, text, text, p, 0));
-    put(b"(");
-    put(calls::parameter(table, text, text, p, 0, 0));
-    put(b")\n");
+    out.write_all(label)?;
+    out.write_all(b": ")?;
+    out.write_all(calls::name(table, text, text, p, 0))?;
+    out.write_all(b"(")?;
+    out.write_all(calls::parameter(table, text, text, p, 0, 0))?;
+    out.write_all(b")\n")
 }
 
 fn hear(
+    out: &mut impl Write,
     table: &[u8],
     text: &[u8],
     meta_row: usize,
     state: State,
     r: [u8; 32],
     label: &[u8],
-) -> State {
+) -> io::Result<State> {
     let maps = keyboard(meta_row);
     let answer = matcher::match_event(table, &maps, MULTI_CLICK_TIME, state, &r, b'l');
     let matched = answer.matched;
-    show(table, text, label, matched);
-    answer.state
+    show(out, table, text, label, matched)?;
+    Ok(answer.state)
 }
 
 // Press and release of button 1, 20 milliseconds apart.
-fn click(table: &[u8], text: &[u8], state: State, modifiers: u8, time: u32, label: &[u8]) -> State {
+fn click(
+    out: &mut impl Write,
+    table: &[u8],
+    text: &[u8],
+    state: State,
+    modifiers: u8,
+    time: u32,
+    label: &[u8],
+) -> io::Result<State> {
     let press = record(BUTTON_PRESS, 1, modifiers, time);
-    let pressed = hear(table, text, MOD1_ROW, state, press, label);
+    let pressed = hear(out, table, text, MOD1_ROW, state, press, label)?;
     let later = std::num::wrapping_add_u32(time, 20);
     let release = record(BUTTON_RELEASE, 1, modifiers, later);
-    hear(table, text, MOD1_ROW, pressed, release, label)
+    hear(out, table, text, MOD1_ROW, pressed, release, label)
 }
 
-fn key(table: &[u8], text: &[u8], state: State, modifiers: u8, time: u32, label: &[u8]) -> State {
+fn key(
+    out: &mut impl Write,
+    table: &[u8],
+    text: &[u8],
+    state: State,
+    modifiers: u8,
+    time: u32,
+    label: &[u8],
+) -> io::Result<State> {
     let press = record(KEY_PRESS, KEYCODE_G, modifiers, time);
-    hear(table, text, MOD1_ROW, state, press, label)
+    hear(out, table, text, MOD1_ROW, state, press, label)
 }
 
 // G with Mod1 and with Mod4, on a keyboard that has Meta in this row.
-fn with_meta(table: &[u8], text: &[u8], meta_row: usize) {
+fn with_meta(out: &mut impl Write, table: &[u8], text: &[u8], meta_row: usize) -> io::Result<()> {
     let mod1 = record(KEY_PRESS, KEYCODE_G, MOD1, 1000);
     let mod4 = record(KEY_PRESS, KEYCODE_G, MOD4, 1100);
     let s = State::fresh();
-    let s = hear(table, text, meta_row, s, mod1, b"Mod1 G");
-    hear(table, text, meta_row, s, mod4, b"Mod4 G");
+    let s = hear(out, table, text, meta_row, s, mod1, b"Mod1 G")?;
+    hear(out, table, text, meta_row, s, mod4, b"Mod4 G")?;
+    Ok(())
 }
 
-fn three_clicks(table: &[u8], text: &[u8], s: State) -> State {
-    let s = click(table, text, s, NONE, 1000, b"click at 1000");
-    let s = click(table, text, s, NONE, 1100, b"click at 1100, a double click");
+fn three_clicks(out: &mut impl Write, table: &[u8], text: &[u8], s: State) -> io::Result<State> {
+    let s = click(out, table, text, s, NONE, 1000, b"click at 1000")?;
+    let s = click(out, table, text, s, NONE, 1100, b"click at 1100, a double click")?;
     click(
+        out,
         table,
         text,
         s,
@@ -145,61 +168,63 @@ fn three_clicks(table: &[u8], text: &[u8], s: State) -> State {
 }
 
 // 4294967196 is 100 before the clock's wrap.
-fn across_the_wrap(table: &[u8], text: &[u8], s: State) -> State {
-    let s = click(table, text, s, NONE, 4294967196, b"click at 4294967196");
-    let s = click(table, text, s, NONE, 99, b"click at 99, 199 ms later");
-    let s = click(table, text, s, NONE, 4294967196, b"click at 4294967196");
-    click(table, text, s, NONE, 100, b"click at 100, 200 ms later")
+fn across_the_wrap(out: &mut impl Write, table: &[u8], text: &[u8], s: State) -> io::Result<State> {
+    let s = click(out, table, text, s, NONE, 4294967196, b"click at 4294967196")?;
+    let s = click(out, table, text, s, NONE, 99, b"click at 99, 199 ms later")?;
+    let s = click(out, table, text, s, NONE, 4294967196, b"click at 4294967196")?;
+    click(out, table, text, s, NONE, 100, b"click at 100, 200 ms later")
 }
 
-fn with_caps_lock(table: &[u8], text: &[u8], s: State) -> State {
-    let s = key(table, text, s, CTRL, 9000, b"Ctrl G at 9000");
+fn with_caps_lock(out: &mut impl Write, table: &[u8], text: &[u8], s: State) -> io::Result<State> {
+    let s = key(out, table, text, s, CTRL, 9000, b"Ctrl G at 9000")?;
     let s = key(
+        out,
         table,
         text,
         s,
         CTRL_LOCK,
         9100,
         b"Ctrl G at 9100, Caps Lock on",
-    );
-    let s = key(table, text, s, NONE, 9200, b"G at 9200");
-    click(table, text, s, LOCK, 9300, b"click at 9300, Caps Lock on")
+    )?;
+    let s = key(out, table, text, s, NONE, 9200, b"G at 9200")?;
+    click(out, table, text, s, LOCK, 9300, b"click at 9300, Caps Lock on")
 }
 
 // One motion in a line stands for any number of them.
-fn drag(table: &[u8], text: &[u8], s: State) -> State {
+fn drag(out: &mut impl Write, table: &[u8], text: &[u8], s: State) -> io::Result<State> {
     let press = record(BUTTON_PRESS, 1, NONE, 20000);
     let release = record(BUTTON_RELEASE, 1, NONE, 20040);
-    let s = hear(table, text, MOD1_ROW, s, press, b"press at 20000");
-    let s = hear(table, text, MOD1_ROW, s, motion(20010), b"motion at 20010");
-    let s = hear(table, text, MOD1_ROW, s, motion(20020), b"motion at 20020");
-    let s = hear(table, text, MOD1_ROW, s, motion(20030), b"motion at 20030");
-    hear(table, text, MOD1_ROW, s, release, b"release at 20040")
+    let s = hear(out, table, text, MOD1_ROW, s, press, b"press at 20000")?;
+    let s = hear(out, table, text, MOD1_ROW, s, motion(20010), b"motion at 20010")?;
+    let s = hear(out, table, text, MOD1_ROW, s, motion(20020), b"motion at 20020")?;
+    let s = hear(out, table, text, MOD1_ROW, s, motion(20030), b"motion at 20030")?;
+    hear(out, table, text, MOD1_ROW, s, release, b"release at 20040")
 }
 
-fn run(table: &[u8], text: &[u8]) {
-    put(text);
-    put(b"\n");
+fn run(out: &mut impl Write, table: &[u8], text: &[u8]) -> io::Result<()> {
+    out.write_all(text)?;
+    out.write_all(b"\n")?;
     let s = State::fresh();
-    let s = three_clicks(table, text, s);
-    let s = across_the_wrap(table, text, s);
-    let s = with_caps_lock(table, text, s);
-    drag(table, text, s);
-    put(b"\nMeta is Mod1\n");
-    with_meta(table, text, MOD1_ROW);
-    put(b"\nMeta is Mod4\n");
-    with_meta(table, text, MOD4_ROW);
+    let s = three_clicks(out, table, text, s)?;
+    let s = across_the_wrap(out, table, text, s)?;
+    let s = with_caps_lock(out, table, text, s)?;
+    drag(out, table, text, s)?;
+    out.write_all(b"\nMeta is Mod1\n")?;
+    with_meta(out, table, text, MOD1_ROW)?;
+    out.write_all(b"\nMeta is Mod4\n")?;
+    with_meta(out, table, text, MOD4_ROW)
 }
 
-fn main() {
+fn main(rt: HostRuntime) -> io::Result<()> {
+    let mut out = io::writer(&rt);
     let text =
         b"<Btn1Down>(2): grant(space)\n<Btn1Down>: look(bucket)\nCtrl<Key>g: grant(space)\nMeta<Key>g: revoke(space)\n<Btn1Down>,<Btn1Motion>: slide(bar)\n<Btn1Down>,<Btn1Motion>,<Btn1Up>: set(cap)\n";
     let mut table = [0u8; tables::TABLE_LENGTH];
     match compiler::compile(text, &mut table) {
-        Compiled::Accepted => run(&table, text),
+        Compiled::Accepted => run(&mut out, &table, text),
         Compiled::Refused {
             number: _,
             place: _,
-        } => put(b"the table is refused\n"),
+        } => out.write_all(b"the table is refused\n"),
     }
 }

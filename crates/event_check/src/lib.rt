@@ -1,6 +1,8 @@
 // The events of a table. The loop goes over the used words of their sections with no early exit and in numbers of 16 bits, so
 // that it is compiled to vector instructions that take eight words at a time. Sums are taken in the same loop, of each word its
 // lower byte: a word in range has no more.
+#![tactic(auto)]
+
 ghost use Rattle.std.specs.Prelude.{◌≡◌, ◌≤◌, length};
 ghost use Rattle.words.specs.Runs.{every, total, low_at};
 ghost use Rattle.tables.specs.Layout.{counts_at, table_length};
@@ -27,7 +29,7 @@ fn event_ok(code: u16, count: u16, set: u16, clear: u16, flags: u16, low: u16, h
 
 // What the loop over events finds: whether all are in range, the sum of the lower bytes of their counts, and whether no count
 // is above 3.
-#[derive(Drop)]
+#[derive(Clone, Copy)]
 pub struct EventTally {
     pub ok: bool,
     pub counts: u16,

@@ -12,13 +12,13 @@ use model::scan::{Class, CountRead, TypeRead};
 use scanner::bytes::{byte_at, run_end, skip};
 
 // From start up to end.
-#[derive(Drop)]
+#[derive(Clone, Copy)]
 pub struct Part {
     pub start: usize,
     pub end: usize,
 }
 
-#[derive(Drop)]
+#[derive(Clone, Copy)]
 pub struct ListSpans {
     pub kind: ListKind,
     pub bang: bool,
@@ -27,7 +27,7 @@ pub struct ListSpans {
     pub start: usize,
 }
 
-#[derive(Drop)]
+#[derive(Clone, Copy)]
 pub enum CountSpan {
     Absent,
     Digits {
@@ -37,7 +37,7 @@ pub enum CountSpan {
     },
 }
 
-#[derive(Drop)]
+#[derive(Clone, Copy)]
 pub struct EventSpans {
     pub list: ListSpans,
     // The type's name.
@@ -47,7 +47,7 @@ pub struct EventSpans {
     pub detail: Part,
 }
 
-#[derive(Drop)]
+#[derive(Clone, Copy)]
 pub enum EventRead {
     Broken,
     Plain(EventSpans),

@@ -47,7 +47,7 @@ pub fn key_at(l: &[u8], at: usize) -> KeyRead
 }
 
 // A whole key sequence: how many characters it has, and where reading goes on.
-#[derive(Drop)]
+#[derive(Clone, Copy)]
 pub enum KeysRead {
     Broken,
     Keys { count: usize, next: usize },

@@ -27,7 +27,7 @@ pub fn event_step(l: &[u8], at: usize) -> AfterEvent
 }
 
 // Whether the events of a line are in the grammar, and where its calls begin.
-#[derive(Drop)]
+#[derive(Clone, Copy)]
 pub enum LeftRead {
     Broken,
     Left { next: usize },

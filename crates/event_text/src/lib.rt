@@ -1,4 +1,6 @@
 // Events as they are written: modifiers, type, count and detail.
+#![tactic(auto)]
+
 ghost use Rattle.std.specs.Prelude.{◌≡◌, true, ◌++◌, ◌+◌, ◌≤◌, ◌<◌};
 ghost use Rattle.model.specs.Lists.{bytes};
 ghost use Rattle.model.specs.Canonical.{type_text, value_text, detail_text, count_text, event_text};

@@ -1,4 +1,6 @@
 // Single words of the events of a table: a production is mostly ruled out by one.
+#![tactic(auto)]
+
 ghost use Rattle.std.specs.Prelude.{◌≡◌, ◌≤◌, ◌<◌, length, true};
 ghost use Rattle.model.specs.Named.{kept_as_written};
 ghost use Rattle.tables.specs.Reading.{event_total, event_entry, is_flag};

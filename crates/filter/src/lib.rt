@@ -1,4 +1,6 @@
 // A quick test of the events of a table, by two words of each: most productions are ruled out by it.
+#![tactic(auto)]
+
 ghost use Rattle.std.specs.Prelude.{◌≡◌, true, false, cond, ◌+◌, ◌-◌, ◌≤◌, ◌<◌, length};
 ghost use Rattle.records.specs.Ranges.{EventRanges};
 ghost use Rattle.keyboard.specs.Maps.{map_numbers};
@@ -11,7 +13,7 @@ use model::events::Event;
 use tables::places;
 
 // What an event asks of the table's: its code, its state, and its detail or, of a key, the keysyms of its pair, folded.
-#[derive(Drop)]
+#[derive(Clone, Copy)]
 pub struct Sought {
     pub code: u16,
     pub state: u16,
@@ -120,7 +122,7 @@ fn pairs(table: &[u8], one: Sought, two: Sought, i: usize) -> bool
 
 // Bounds of where the events stand with which a production may begin: none before `low`, and none from `high` on. They serve
 // for speed alone and may be wide; for one such event the upper one is exact, and where there is none both are 0.
-#[derive(Drop)]
+#[derive(Clone, Copy)]
 pub struct Reach {
     pub low: u16,
     pub high: u16,

@@ -1,4 +1,6 @@
 // Events against the elements of one production.
+#![tactic(auto)]
+
 ghost use Rattle.std.specs.Prelude.{◌≡◌, true, ℕ, ◌+◌, ◌-◌, ◌≤◌, ◌<◌, length, take, drop};
 ghost use Rattle.std.proofs.Math.Option.{none};
 ghost use Rattle.records.specs.Ranges.{EventRanges};
@@ -15,7 +17,7 @@ use model::events::Event;
 use states::slots;
 
 // How a stretch of events and the sequence of a production compare.
-#[derive(Drop)]
+#[derive(Clone, Copy)]
 pub enum Followed {
     // The stretch does not read as a prefix.
     No,

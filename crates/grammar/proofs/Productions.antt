@@ -1,5 +1,5 @@
 -- A line: what is read of it is what the grammar derives from it.
-use Prim.Native.Nat.{ℕ, zero, suc, ◌+◌, ◌-◌, ◌<◌}
+use Prim.Native.Nat.{ℕ, zero, suc, ◌+◌, ◌<◌}
 use Prim.Native.Char.{Char, code}
 use native.Mathlib.Omega.{arith}
 use native.Mathlib.Nat.{add-zero}

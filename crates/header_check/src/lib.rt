@@ -1,5 +1,7 @@
 // The header of a table, and that the words beyond the numbers that it gives are 0. The unused words of three or four sections
 // are taken in one loop, with no early exit, so that it is compiled to vector instructions that take eight words at a time.
+#![tactic(auto)]
+
 ghost use Rattle.std.specs.Prelude.{◌≡◌, ◌≤◌, length};
 ghost use Rattle.words.specs.Words.{word_at};
 ghost use Rattle.tables.specs.Layout.{table_length};

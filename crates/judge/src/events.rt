@@ -18,7 +18,7 @@ use model::names::{Added, DetailRead, EventType};
 use model::scan::KeyMark;
 
 // A written count, or none.
-#[derive(Drop)]
+#[derive(Clone, Copy)]
 pub struct CountSummary {
     // Not one digit 1..9, or on an event that takes none.
     pub bad: bool,
@@ -29,7 +29,7 @@ pub struct CountSummary {
 }
 
 // A written detail, or none.
-#[derive(Drop)]
+#[derive(Clone, Copy)]
 pub struct DetailSummary {
     pub unknown: bool,
     pub too_large: bool,

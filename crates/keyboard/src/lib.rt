@@ -1,4 +1,6 @@
 // Keyboard lookup: the keysym that a keycode's pair gives under Shift and Lock, and whether it is the one asked for.
+#![tactic(auto)]
+
 ghost use Rattle.std.specs.Prelude.{◌≡◌, ◌+◌, ◌≤◌, ◌<◌, length};
 ghost use Rattle.model.specs.Keyboard.{is_lower, is_upper, upper, lower, picked, keysym_of};
 ghost use Rattle.keyboard.specs.Folds.{fold, folded};
@@ -6,7 +8,7 @@ ghost use Rattle.keyboard.specs.Maps.{number_from, map_numbers};
 ghost use Rattle.keyboard.specs.Pairs.{pair_at, lock_gives, pair_gives, pair_asked};
 
 // The two keysyms that a keyboard map has for a keycode.
-#[derive(Drop)]
+#[derive(Clone, Copy)]
 pub struct Pair {
     pub first: u32,
     pub second: u32,

@@ -1,5 +1,7 @@
 // The keysyms after `@` of a table's events. Most tables have none: one test finds that all words of their sections are 0, and
 // only where that fails are they taken event by event.
+#![tactic(auto)]
+
 ghost use Rattle.std.specs.Prelude.{◌≡◌, ◌&&◌, ◌≤◌, ◌<◌, length};
 ghost use Rattle.words.specs.Runs.{every};
 ghost use Rattle.tables.specs.Layout.{table_length};

@@ -2,11 +2,11 @@
 use Prim.Native.Nat.{ℕ, ◌+◌, ◌/◌, ◌%◌, ◌≤◌, ◌<◌}
 use native.Mathlib.Omega.{arith}
 use mathlib.Core.Path.{◌≡◌, refl, sym, ap}
-use mathlib.Core.Bool.{Bool, true, false, cond, not, ◌||◌, or-false, or-true}
+use mathlib.Core.Bool.{Bool, true, false, cond, not, ◌||◌}
 use mathlib.Core.List.{List, [], ◌∷◌}
 use lib.Dec.{eqb, ltb}
-use lib.ListN.{length, get_or}
-use borrow.Author.Tests.{lt-ltb, le-ltb, ltb-true, ltb-false, eqb-true, eqb-false, ne_eqb}
+use lib.ListN.{get_or}
+use borrow.Author.Tests.{lt-ltb, ltb-true, ltb-false, eqb-false, ne_eqb}
 use Rattle.model.specs.Lists.{is_empty}
 use Rattle.model.specs.Named.{listed_mark, marked_keysym, is_listed, mark_listed, with_keysym}
 use Rattle.keysym_list.specs.Slots.{slot_passed}

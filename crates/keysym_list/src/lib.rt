@@ -1,5 +1,7 @@
 // The keysyms that a modifier list names after `@`, one at a time. They are kept rising in four slots: one more is carried
 // from slot to slot until it finds its place, and where it takes a slot, what stood there is carried on.
+#![tactic(auto)]
+
 ghost use Rattle.std.specs.Prelude.{◌≡◌, ◌<◌};
 ghost use Rattle.model.specs.Named.{listed_mark, mark_listed, no_keysyms};
 ghost use Rattle.keysym_list.specs.Slots.{slot_passed, with_one_more, SlotsIn};
@@ -7,14 +9,14 @@ ghost use Rattle.keysym_list.specs.Slots.{slot_passed, with_one_more, SlotsIn};
 use model::events::Keysyms;
 
 // The first four keysyms, and whether there are more.
-#[derive(Drop)]
+#[derive(Clone, Copy)]
 pub struct Slots {
     pub keysyms: Keysyms,
     pub over: bool,
 }
 
 // A slot that a carried number has passed, and what is carried on; 0 for nothing.
-#[derive(Drop)]
+#[derive(Clone, Copy)]
 struct Carried {
     slot: u32,
     carried: u32,

@@ -8,7 +8,7 @@ use crate::table::{NAME_BYTES, STARTS, TOTAL, VALUES};
 use model::names::DetailRead;
 
 // A place of the table.
-#[derive(Drop)]
+#[derive(Clone, Copy)]
 pub enum NamePlace {
     At(usize),
     Nowhere,

@@ -24,7 +24,7 @@ use model::scan::{AfterEvent, KeyRead};
 use tables::write::put_event;
 
 // What the left side of a line came to.
-#[derive(Drop)]
+#[derive(Clone, Copy)]
 pub enum LeftWritten {
     Broken,
     // An event is refused, and nothing after it has been looked at.

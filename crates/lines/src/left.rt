@@ -2,7 +2,7 @@
 ghost use Rattle.std.specs.Prelude.{◌≡◌};
 ghost use Rattle.lines.specs.Left.{finished};
 
-#[derive(Drop)]
+#[derive(Clone, Copy)]
 pub enum LeftJudged {
     Refuse(u8),
     // No event is refused, and one names too many keysyms.
@@ -12,7 +12,7 @@ pub enum LeftJudged {
 }
 
 // The same of what stands at a position, with where reading goes on.
-#[derive(Drop)]
+#[derive(Clone, Copy)]
 pub enum StepJudged {
     // Neither an event nor a key sequence.
     Broken,

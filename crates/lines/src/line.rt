@@ -10,7 +10,7 @@ use crate::totals::{Line, Totals, exceeds};
 use call_scanner::right::{RightRead, right_side};
 use event_scanner::left::{LeftRead, left_side};
 
-#[derive(Drop)]
+#[derive(Clone, Copy)]
 pub enum LineJudged {
     Refuse(u8),
     Add(Line),

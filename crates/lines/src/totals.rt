@@ -3,7 +3,7 @@ ghost use Rattle.std.specs.Prelude.{◌≡◌, [], ◌+◌, ◌≤◌, ltb};
 ghost use Rattle.lines.specs.Totals.{totals_of, with_line, TotalsIn};
 
 // What productions hold in all.
-#[derive(Drop)]
+#[derive(Clone, Copy)]
 pub struct Totals {
     pub productions: usize,
     // As a table keeps them.
@@ -15,7 +15,7 @@ pub struct Totals {
 }
 
 // What the production of one line holds.
-#[derive(Drop)]
+#[derive(Clone, Copy)]
 pub struct Line {
     pub events: usize,
     pub elements: usize,

@@ -11,7 +11,7 @@ use model::events::Keysyms;
 use model::names::{Added, DetailRead, ModifierName};
 
 // A modifier list: what is written, and what it lists without `~` and with it.
-#[derive(Drop)]
+#[derive(Clone, Copy)]
 pub struct ListSummary {
     // Something is written before `<`.
     pub written: bool,

@@ -9,7 +9,7 @@ use model::scan::ModifierRead;
 use scanner::bytes::byte_at;
 
 // What the check of a list needs to know of its modifiers.
-#[derive(Drop)]
+#[derive(Clone, Copy)]
 pub enum ModifiersRead {
     Broken,
     Modifiers {
@@ -25,7 +25,7 @@ pub enum ModifiersRead {
     },
 }
 
-#[derive(Drop)]
+#[derive(Clone, Copy)]
 pub enum ListKind {
     // Perhaps `!` and `:`, and any number of modifiers.
     Listed,
@@ -35,7 +35,7 @@ pub enum ListKind {
     AnyModifier,
 }
 
-#[derive(Drop)]
+#[derive(Clone, Copy)]
 pub enum ListRead {
     Broken,
     List { kind: ListKind, end: usize },

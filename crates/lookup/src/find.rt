@@ -9,7 +9,7 @@ use names::table;
 use names::table::Spelling;
 
 // The place of a name in the table.
-#[derive(Drop)]
+#[derive(Clone, Copy)]
 pub enum Found {
     At(usize),
     Nothing,

@@ -1,5 +1,7 @@
 // What a word stands for: the names of modifiers, event types, details and directives, and the numbers of details. A modifier and
 // an event type are compared with the names of their own group alone.
+#![tactic(auto)]
+
 pub mod details;
 pub mod find;
 
@@ -18,7 +20,7 @@ use names::{groups, meanings, table};
 use numerals::number;
 
 // The directive of a first line.
-#[derive(Drop)]
+#[derive(Clone, Copy)]
 pub enum FirstLine {
     Found(Directive),
     Absent,

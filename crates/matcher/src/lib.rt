@@ -1,4 +1,6 @@
 // The matcher: at each record that is heard, the production that it completes, and the state for the next.
+#![tactic(auto)]
+
 ghost use Rattle.std.specs.Prelude.{◌≡◌, not};
 ghost use Rattle.model.specs.Numbers.{match_order, matched_number, matched_selection};
 ghost use Rattle.model.specs.Resolving.{is_bad_map};

@@ -70,8 +70,8 @@ module _ (old new out : List ℕ) where
 
   -- an answer and bytes, with the number of the answer
   pub numbered : {r : Merged} {b : List ℕ} → (r ≡ merge_answer old new out) × (b ≡ merged_bytes old new out)
-      → (r ≡ merge_answer old new out) × ((merged_number r ≡ merge_number old new out) × (b ≡ merged_bytes old new out))
-  numbered h = (h.0, (ap merged_number h.0 ∙ answer_number, h.1))
+      → record { answer : r ≡ merge_answer old new out; number : merged_number r ≡ merge_number old new out; bytes : b ≡ merged_bytes old new out }
+  numbered h = record { answer = h.0; number = ap merged_number h.0 ∙ answer_number; bytes = h.1 }
 
   -- ---- 1
 

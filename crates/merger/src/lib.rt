@@ -1,4 +1,6 @@
 // The merge of two tables into lent bytes: judge first, read only, then clear and write.
+#![tactic(auto)]
+
 ghost use Rattle.std.specs.Prelude.{◌≡◌, false, not, ◌≤◌, length};
 ghost use Rattle.model.specs.Numbers.{merge_order, merged_number};
 ghost use Rattle.model.specs.Merging.{merge_passes_limit};

@@ -2,7 +2,7 @@
 use crate::events::{Event, KeptEvent};
 
 // An event of a text, judged.
-#[derive(Drop)]
+#[derive(Clone, Copy)]
 pub enum Judged {
     Keep(KeptEvent),
     // It names more keysyms after `@` than an event may: a limit of its line, which is judged after all its events.
@@ -11,35 +11,35 @@ pub enum Judged {
 }
 
 // The compiler.
-#[derive(Drop)]
+#[derive(Clone, Copy)]
 pub enum Compiled {
     Accepted,
     Refused { number: u8, place: usize },
 }
 
 // The merger.
-#[derive(Drop)]
+#[derive(Clone, Copy)]
 pub enum Merged {
     Accepted,
     Refused(u8),
 }
 
 // The canonical writer: how many bytes were written.
-#[derive(Drop)]
+#[derive(Clone, Copy)]
 pub enum Written {
     Accepted(usize),
     Refused(u8),
 }
 
 // How many productions, calls or parameters there are.
-#[derive(Drop)]
+#[derive(Clone, Copy)]
 pub enum Counted {
     Accepted(usize),
     Refused(u8),
 }
 
 // Where a call's name or a parameter stands, in the first text or in the second.
-#[derive(Drop)]
+#[derive(Clone, Copy)]
 pub enum Located {
     First { start: usize, len: usize },
     Second { start: usize, len: usize },
@@ -47,14 +47,14 @@ pub enum Located {
 }
 
 // The reader of records.
-#[derive(Drop)]
+#[derive(Clone, Copy)]
 pub enum RecordRead {
     Event(Event),
     Refused(u8),
 }
 
 // The matcher.
-#[derive(Drop)]
+#[derive(Clone, Copy)]
 pub enum Matched {
     Refused(u8),
     // No production has an event of this type.

@@ -2,7 +2,7 @@
 use crate::events::Detail;
 
 // The modifier that an event type's name adds.
-#[derive(Drop)]
+#[derive(Clone, Copy)]
 pub enum Added {
     Nothing,
     // This modifier bit is asked set.
@@ -14,20 +14,20 @@ pub enum Added {
 }
 
 // An event type's name: the code, what it adds, and the detail that it fixes.
-#[derive(Drop)]
+#[derive(Clone, Copy)]
 pub struct EventType {
     pub code: u8,
     pub added: Added,
     pub detail: Detail,
 }
 
-#[derive(Drop)]
+#[derive(Clone, Copy)]
 pub enum TypeName {
     Known(EventType),
     Unknown,
 }
 
-#[derive(Drop)]
+#[derive(Clone, Copy)]
 pub enum ModifierName {
     // A modifier bit, 0..12.
     Bit(u8),
@@ -37,7 +37,7 @@ pub enum ModifierName {
 }
 
 // What a written detail reads to.
-#[derive(Drop)]
+#[derive(Clone, Copy)]
 pub enum DetailRead {
     Value(u32),
     // No such name, a malformed number, or no detail is taken.

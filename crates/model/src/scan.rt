@@ -2,7 +2,7 @@
 // where reading goes on.
 
 // Sets of bytes of which the grammar takes longest runs.
-#[derive(Drop)]
+#[derive(Clone, Copy)]
 pub enum Class {
     Blank,
     // Letters and digits: a modifier's name, an event type.
@@ -23,14 +23,14 @@ pub enum Class {
 }
 
 // A part of a text.
-#[derive(Drop)]
+#[derive(Clone, Copy)]
 pub struct Span {
     pub start: usize,
     pub len: usize,
 }
 
 // `!` and `:` at the start of a modifier list.
-#[derive(Drop)]
+#[derive(Clone, Copy)]
 pub struct Lead {
     pub bang: bool,
     pub colon: bool,
@@ -38,7 +38,7 @@ pub struct Lead {
 }
 
 // One modifier, or the `<` that ends the list.
-#[derive(Drop)]
+#[derive(Clone, Copy)]
 pub enum ModifierRead {
     Broken,
     End(usize),
@@ -56,7 +56,7 @@ pub enum ModifierRead {
 }
 
 // `<type>`.
-#[derive(Drop)]
+#[derive(Clone, Copy)]
 pub enum TypeRead {
     Broken,
     Type {
@@ -67,7 +67,7 @@ pub enum TypeRead {
 }
 
 // `(count)` or nothing.
-#[derive(Drop)]
+#[derive(Clone, Copy)]
 pub enum CountRead {
     Broken,
     Absent(usize),
@@ -80,7 +80,7 @@ pub enum CountRead {
 }
 
 // What stands before a character of a key sequence.
-#[derive(Drop)]
+#[derive(Clone, Copy)]
 pub enum KeyMark {
     Plain,
     // `^`.
@@ -92,7 +92,7 @@ pub enum KeyMark {
 }
 
 // One character of a key sequence, or the quote that ends it.
-#[derive(Drop)]
+#[derive(Clone, Copy)]
 pub enum KeyRead {
     Broken,
     End(usize),
@@ -104,7 +104,7 @@ pub enum KeyRead {
 }
 
 // What parts two events of a production, or ends them.
-#[derive(Drop)]
+#[derive(Clone, Copy)]
 pub enum AfterEvent {
     Broken,
     Comma(usize),
@@ -112,7 +112,7 @@ pub enum AfterEvent {
 }
 
 // The next call's name, with the bracket after it, or the end of the line.
-#[derive(Drop)]
+#[derive(Clone, Copy)]
 pub enum CallRead {
     Broken,
     End,
@@ -120,7 +120,7 @@ pub enum CallRead {
 }
 
 // One parameter without its quotes, and whether more follow.
-#[derive(Drop)]
+#[derive(Clone, Copy)]
 pub enum ParameterRead {
     Broken,
     More {

@@ -1,4 +1,6 @@
 // Modifier lists as they are written.
+#![tactic(auto)]
+
 ghost use Rattle.std.specs.Prelude.{◌≡◌, cond, [], ◌++◌, ◌+◌, ◌≤◌, ◌<◌};
 ghost use Rattle.model.specs.Named.{kept_as_written};
 ghost use Rattle.model.specs.Canonical.{asks_every, writes_bang, bit_text, is_written_bit, list_text, modifiers_text};

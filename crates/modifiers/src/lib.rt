@@ -1,4 +1,6 @@
 // Masks of the 13 modifier bits: a bit read, a bit set, and the test that an event makes of a state.
+#![tactic(auto)]
+
 ghost use Rattle.std.specs.Prelude.{◌≡◌, ◌<◌};
 ghost use Rattle.model.specs.Modifiers.{bit, state_meets, no_state_meets};
 ghost use Rattle.modifiers.specs.Setting.{with_bit};

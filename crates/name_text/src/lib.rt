@@ -1,5 +1,7 @@
 // Names of an event as they are written: Meta, Alt, Hyper, Super and its four keysyms, each in two forms, as it is and with `~`.
 // The forms have numbers: 0..7 are those of Meta to Super, 8..15 those of the keysyms, and the odd ones have `~`.
+#![tactic(auto)]
+
 ghost use Rattle.std.specs.Prelude.{◌≡◌, ◌++◌, ◌+◌, ◌≤◌, ◌<◌};
 ghost use Rattle.model.specs.Lists.{bytes};
 ghost use Rattle.model.specs.Named.{form_bit, marked_keysym, is_listed};

@@ -5,7 +5,7 @@ ghost use Rattle.names.specs.Groups.{modifier_group, type_group};
 use crate::rows;
 
 // The places of a group among the names of its kind, from the first up to that after the last.
-#[derive(Drop)]
+#[derive(Clone, Copy)]
 pub struct Group {
     pub from: usize,
     pub to: usize,

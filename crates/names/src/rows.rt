@@ -38,7 +38,7 @@ pub const MODIFIER_BITS: [u8; 24] = [
 
 // An event type's code; the modifier that it adds, 0..12, or 13 for none, 14 for any button, 15 for Meta; the button that it fixes,
 // 0 for none.
-#[derive(Drop)]
+#[derive(Clone, Copy)]
 pub struct TypeNumbers(pub u8, pub u8, pub u8);
 
 // The numbers of the event type at a place among the types.

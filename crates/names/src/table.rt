@@ -28,7 +28,7 @@ pub const MODIFIERS: usize = 44;
 pub const TYPES: usize = 68;
 
 // A name's length, its first eight bytes and the eight after them, each as a number with the first byte lowest.
-#[derive(Drop)]
+#[derive(Clone, Copy)]
 pub struct Spelling(pub usize, pub u64, pub u64);
 
 // A spelling has room for no more bytes.

@@ -1,2 +1,4 @@
 // Numbers as a text writes them.
+#![tactic(auto)]
+
 pub mod number;

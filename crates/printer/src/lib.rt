@@ -1,4 +1,6 @@
 // The canonical text of a table, written into lent bytes.
+#![tactic(auto)]
+
 mod productions;
 
 ghost use Rattle.std.specs.Prelude.{◌≡◌, ◌≤◌, length};

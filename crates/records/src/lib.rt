@@ -1,4 +1,6 @@
 // The reader of event records: 32 bytes and a byte order to an event, or a refusal.
+#![tactic(auto)]
+
 ghost use Rattle.std.specs.Prelude.{◌≡◌, ◌+◌, ◌*◌, ◌<◌, length};
 ghost use Rattle.model.specs.Numbers.{record_number, record_event};
 ghost use Rattle.records.specs.Read.{read_number, read_event};

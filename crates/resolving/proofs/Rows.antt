@@ -12,7 +12,7 @@ use lib.Seq.{get_or-take, get_or-drop, drop-drop, take-nil}
 use Rattle.words.proofs.Bools.{and_left, and_right, or_no_left, or_no_right}
 use Rattle.model.specs.Lists.{any}
 use Rattle.model.specs.Bytes.{in_range}
-use Rattle.model.specs.Modifiers.{bit, mask}
+use Rattle.model.specs.Modifiers.{mask}
 use Rattle.model.specs.Resolving.{is_bad_map, row_of, keycode_holds, holds_keysym}
 use Rattle.modifiers.specs.Setting.{with_bit}
 use Rattle.modifiers.proofs.Masks.{same_mask, mask_none, mask_below}

@@ -1,5 +1,7 @@
 // Request R-1: the names whose bits the modifier map gives. Which bits they are under the maps in use, and what an event that
 // lists names asks of a state there.
+#![tactic(auto)]
+
 ghost use Rattle.std.specs.Prelude.{◌≡◌, true, false, cond, [], ◌∷◌, ℕ, ◌+◌, ◌≤◌, ◌<◌, length, take, drop};
 ghost use Rattle.model.specs.Lists.{any};
 ghost use Rattle.model.specs.Named.{marked_keysym, is_listed};
@@ -13,7 +15,7 @@ ghost use Rattle.resolving.specs.Gathering.{is_low_entry, MapsReady, bits_of, wi
 use model::events::{KeptEvent, Keysyms};
 
 // What is asked of a state: bits set, bits clear, and whether a name listed without `~` has no bit, so that nothing matches.
-#[derive(Drop)]
+#[derive(Clone, Copy)]
 pub struct Resolved {
     pub set: u16,
     pub clear: u16,

@@ -9,7 +9,7 @@ use crate::bytes::{is_allowed, run_end, skip};
 use model::scan::Class;
 
 // The first byte of a text that no text may hold.
-#[derive(Drop)]
+#[derive(Clone, Copy)]
 pub enum BadByte {
     Absent,
     At(usize),

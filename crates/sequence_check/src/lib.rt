@@ -1,5 +1,7 @@
 // The productions of a table: how many events and calls each has, and how many events these stand for. The loops have no early
 // exit and go in numbers of 16 bits, so that they are compiled to vector instructions that take eight words at a time.
+#![tactic(auto)]
+
 ghost use Rattle.std.specs.Prelude.{◌≡◌, true, leb, ◌+◌, ◌-◌, ◌*◌, ◌≤◌, ◌<◌, length};
 ghost use Rattle.words.specs.Words.{word_at};
 ghost use Rattle.words.specs.Runs.{every, total, low_at};
@@ -79,7 +81,7 @@ fn exact_ok(l: &[u8], n: usize, events: usize, calls: usize) -> bool
 // ---- By the counts alone
 
 // What the loop over productions finds: whether each has 1 to `most` events and at most 8 calls, and how many all have.
-#[derive(Drop)]
+#[derive(Clone, Copy)]
 pub struct Sums {
     pub ok: bool,
     pub events: u16,

@@ -1,6 +1,8 @@
 // The calls of a table and their parameters: whether each name and each parameter is a part of its text. The loops have no early
 // exit and go in numbers of 16 bits, so that they are compiled to vector instructions that take eight words at a time. Sums are
 // taken of each word's lower byte: a word in range has no more.
+#![tactic(auto)]
+
 ghost use Rattle.std.specs.Prelude.{◌≡◌, true, leb, ◌+◌, ◌*◌, ◌≤◌, length};
 ghost use Rattle.words.specs.Words.{word_at};
 ghost use Rattle.words.specs.Runs.{every, total, low_at};
@@ -32,7 +34,7 @@ fn call_ok(mark: u16, start: u16, len: u16, parameters: u16, merged: u16, text: 
 }
 
 // What a loop over entries finds: whether all are in range, and the sum of the lower bytes of one of their words.
-#[derive(Drop)]
+#[derive(Clone, Copy)]
 pub struct Tally {
     pub ok: bool,
     pub total: u16,

@@ -1,5 +1,7 @@
 // The matcher's state, by value. Between calls it keeps the events of the open context or, where none is open, those that a motion
 // in the place of the last might still begin a context at; and nothing else.
+#![tactic(auto)]
+
 ghost use Rattle.std.specs.Prelude.{◌≡◌, ◌+◌, ◌*◌, ◌-◌, ◌≤◌, length};
 ghost use Rattle.states.specs.State.{event_whole, used_whole, byte_zero, slots_whole, marks_whole, last_whole, whole_state, fresh_state, state_limits};
 ghost use Rattle.words.specs.Runs.{every};
@@ -8,7 +10,7 @@ use model::events::Event;
 
 pub mod slots;
 
-#[derive(Drop)]
+#[derive(Clone, Copy)]
 pub struct State {
     // How many events are kept.
     pub kept: usize,

@@ -88,6 +88,8 @@ module _ (l : List ℕ) where
   joined_runs : (cs ns : List ℕ) (s : ℕ) → Rests l cs ns s → joined_sections cs (runs cs ns s) ≡ run (word_at l) s (offset cs (length cs))
   unfolding joined_sections run
   joined_runs [] [] s none = refl
+  joined_runs [] (n ∷ ns) s x = elim x [ ]
+  joined_runs (c ∷ cs) [] s x = elim x [ ]
   joined_runs (c ∷ cs) (n ∷ ns) s (more h z r) =
       rw (padded_run s c n h z, joined_runs cs ns (s + c) r) (sym (run_append (word_at l) s c (offset cs (length cs))))
 

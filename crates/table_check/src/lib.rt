@@ -1,4 +1,6 @@
 // Which bytes are a whole table. Each part of the check is a crate of its own.
+#![tactic(auto)]
+
 ghost use Rattle.std.specs.Prelude.{◌≡◌, ◌&&◌, ◌≤◌, length};
 ghost use Rattle.words.specs.Words.{word_at};
 ghost use Rattle.tables.specs.Layout.{table_length};

@@ -42,6 +42,8 @@ set_padded c s w h =
 pub length_joined : (cs : List ℕ) (ss : List (List ℕ)) → Sized cs ss → length (joined_sections cs ss) ≡ offset cs (length cs)
 unfolding joined_sections
 length_joined [] [] none = refl
+length_joined [] (s ∷ ss) x = elim x [ ]
+length_joined (c ∷ cs) [] x = elim x [ ]
 length_joined (c ∷ cs) (s ∷ ss) (more h r) =
     length-append (padded c s) (joined_sections cs ss) ∙ omega (arith, length_padded c s h, length_joined cs ss r)
 
@@ -50,6 +52,8 @@ pub read_joined : (cs : List ℕ) (ss : List (List ℕ)) (j i : ℕ) → Sized c
     → get_or (joined_sections cs ss) (offset cs j + i) 0 ≡ get_or (get_or ss j []) i 0
 unfolding joined_sections
 read_joined [] [] j i none h = absurd (omega arith)
+read_joined [] (s ∷ ss) j i x h = elim x [ ]
+read_joined (c ∷ cs) [] j i x h = elim x [ ]
 read_joined (c ∷ cs) (s ∷ ss) zero i (more q r) h =
     rw zero-add (get_or-append (padded c s) (joined_sections cs ss) 0 i (omega (arith, length_padded c s q)) ∙ get_d_padded c s i)
 read_joined (c ∷ cs) (s ∷ ss) (suc j) i (more q r) h =
@@ -65,6 +69,8 @@ pub append_joined : (cs : List ℕ) (ss : List (List ℕ)) (j w : ℕ) → Sized
     → set (joined_sections cs ss) (offset cs j + length (get_or ss j [])) w ≡ joined_sections cs (set ss j (get_or ss j [] ++ (w ∷ [])))
 unfolding joined_sections
 append_joined [] [] j w none h = absurd (omega arith)
+append_joined [] (s ∷ ss) j w x h = elim x [ ]
+append_joined (c ∷ cs) [] j w x h = elim x [ ]
 append_joined (c ∷ cs) (s ∷ ss) zero w (more q r) h =
     rw zero-add
     (set-append_left (padded c s) (joined_sections cs ss) (length s) w (omega (arith, length_padded c s q))

@@ -23,6 +23,8 @@ use Rattle.tables.proofs.Theorems.{joined_empty}
 sized_append : (cs : List ℕ) (ss : List (List ℕ)) (j w : ℕ) → Sized cs ss → length (get_or ss j []) < get_or cs j 0
     → Sized cs (set ss j (get_or ss j [] ++ (w ∷ [])))
 sized_append [] [] j w none h = none
+sized_append [] (s ∷ ss) j w x h = elim x [ ]
+sized_append (c ∷ cs) [] j w x h = elim x [ ]
 sized_append (c ∷ cs) (s ∷ ss) zero w (more q r) h =
     let e : length (s ++ (w ∷ [])) ≤ c = omega (arith, length-append s (w ∷ [])) in
     more e r

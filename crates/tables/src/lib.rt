@@ -1,4 +1,6 @@
 // A table in lent bytes. docs/LAYOUT.md says where each word stands, and in code the module `places` alone does.
+#![tactic(auto)]
+
 pub mod places;
 pub mod read;
 pub mod write;

@@ -14,7 +14,7 @@ use crate::compare::is_among;
 use model::events::Directive;
 
 // How many there are.
-#[derive(Drop)]
+#[derive(Clone, Copy)]
 pub struct Tally {
     pub productions: usize,
     pub events: usize,
@@ -25,7 +25,7 @@ pub struct Tally {
 }
 
 // The places of a production's first event, call and parameter among all of its table, and how many it has.
-#[derive(Drop)]
+#[derive(Clone, Copy)]
 pub struct Extent {
     pub event: usize,
     pub events: usize,

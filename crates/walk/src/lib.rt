@@ -1,4 +1,6 @@
 // Events against every production of a table.
+#![tactic(auto)]
+
 ghost use Rattle.std.specs.Prelude.{◌≡◌, true, cond, ◌+◌, ◌≤◌, ◌<◌, get_or, take, drop};
 ghost use Rattle.tables.specs.Reading.{production_total, production_events, decode};
 ghost use Rattle.tables.specs.Whole.{whole};
@@ -17,7 +19,7 @@ use states::slots;
 use tables::places;
 
 // What one pass over the productions finds of a stretch.
-#[derive(Drop)]
+#[derive(Clone, Copy)]
 pub enum Passed {
     // It reads as a prefix of none.
     No,
@@ -28,14 +30,14 @@ pub enum Passed {
 }
 
 // Where the stretch begins that reads as a prefix, and what the pass found of it.
-#[derive(Drop)]
+#[derive(Clone, Copy)]
 pub struct Start {
     pub at: usize,
     pub found: Passed,
 }
 
 // A production, and where its events begin.
-#[derive(Drop)]
+#[derive(Clone, Copy)]
 pub struct Spot {
     pub at: usize,
     pub p: usize,

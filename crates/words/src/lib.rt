@@ -1,4 +1,6 @@
 // Words of 16 bits in lent bytes: two bytes each, the lower first.
+#![tactic(auto)]
+
 ghost use Rattle.std.specs.Prelude.{◌≡◌, ◌&&◌, ◌+◌, ◌-◌, ◌*◌, ◌≤◌, ◌<◌, length};
 ghost use Rattle.words.specs.Words.{word_at, put_word, cleared};
 ghost use Rattle.words.specs.Runs.{every, total, is_zero, three_zero, four_zero};

@@ -1,0 +1,16 @@
+use Rattle.model.specs.Calls.{call_name_from}
+use Rattle.scanner.proofs.Runs.{test_is, test_not}
+use borrow.Author.Tests.{eq-eqb, ne_eqb}
+use Rattle.call_scanner.proofs.calls.call_name_from.Goals as goal
+
+pub returns-then-end-start : goal.returns-then-end-start
+unfolding call_name_from
+returns-then-end-start c = rw (eq-eqb _ _ c.if-end-start.true)
+
+pub returns-then-byte_at-eq40 : goal.returns-then-byte_at-eq40
+unfolding call_name_from
+returns-then-byte_at-eq40 c = rw (ne_eqb _ _ c.if-end-start.false, test_is c.byte_at.ensures c.if-byte_at-eq40.true)
+
+pub returns : goal.returns
+unfolding call_name_from
+returns c = rw (ne_eqb _ _ c.if-end-start.false, test_not c.byte_at.ensures c.if-byte_at-eq40.false)

@@ -1,0 +1,12 @@
+-- `calls::parameter` meets its contract.
+use mathlib.Core.Path.{subst}
+use Rattle.calls.specs.Parts.{IsPart}
+use Rattle.calls.proofs.Located.{parameter_answer_within}
+use Rattle.calls.proofs.parameter.Goals as goal
+
+pub part-requires : goal.part-requires
+part-requires c = rw c.locate_parameter.ensures.answer (parameter_answer_within c.args.table.now c.args.first.now c.args.second.now c.args.production c.args.call c.args.parameter)
+
+pub returns : goal.returns
+returns c =
+    subst (IsPart c.args.first c.args.second c.part.result) c.locate_parameter.ensures.answer c.part.ensures

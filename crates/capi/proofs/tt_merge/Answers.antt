@@ -1,0 +1,7 @@
+-- `capi::tt_merge` meets its contract.
+use mathlib.Core.Path.{ap, ◌∙◌}
+use Rattle.capi.specs.Answers.{merged_word}
+use Rattle.capi.proofs.tt_merge.Goals as goal
+
+pub returns : goal.returns
+returns c = (c.merged_word.ensures ∙ ap merged_word c.merge.ensures.0, c.merge.ensures.1.1)

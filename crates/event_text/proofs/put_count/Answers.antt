@@ -1,0 +1,19 @@
+-- `event_text::put_count` meets its contract.
+use borrow.Author.Rules.{rules}
+use native.Mathlib.Omega.{arith}
+use borrow.Author.Tests.{lt-ltb, le-ltb}
+use Rattle.writing.proofs.Laws.{put_none, put_then}
+use Rattle.model.specs.Canonical.{count_text}
+use Rattle.event_text.proofs.put_count.Goals as goal
+
+pub returns-then-n-le1 : goal.returns-then-n-le1
+unfolding count_text
+returns-then-n-le1 c = (rw (le-ltb 1 c.args.n (omega arith)) (put_none _ _), search rules)
+
+pub returns : goal.returns
+unfolding count_text
+returns c =
+    let p = c.put_byte-next.ensures in
+    let q = c.put_decimal-next.ensures in
+    let r = c.put_byte.ensures in
+    (rw (lt-ltb 1 _ c.if-n-le1.false) (put_then p (put_then q.0 r)), omega (arith, p.next, q.1, r.next))

@@ -1,0 +1,9 @@
+-- The constant is the row that the rules' list computes to: one test over the whole row. Assumes nothing.
+use mathlib.Core.Path.{refl}
+use Rattle.model.specs.Latin1.{latin1_entries}
+use Rattle.keysyms.specs.Table.{starts_from, name_starts}
+use Rattle.keysyms.proofs.first.name_starts.Goals as goal
+
+pub returns : goal.returns
+unfolding name_starts starts_from latin1_entries
+returns c = refl

@@ -1,0 +1,8 @@
+-- `lookup::takes_atom` meets its contract. Assumes nothing.
+use Rattle.lookup.proofs.takes_atom.Goals as goal
+
+pub returns-then-in_range : goal.returns-then-in_range
+returns-then-in_range c = rw (← c.in_range.ensures, c.if-in_range.true)
+
+pub returns-else-in_range : goal.returns-else-in_range
+returns-else-in_range c = rw (← c.in_range.ensures, c.if-in_range.false)

@@ -1,0 +1,16 @@
+-- `words::four_zero` meets its contract.
+use Prim.Native.Nat.{◌+◌, ◌-◌, ◌*◌, ◌≤◌}
+use mathlib.Core.Path.{◌≡◌}
+use lib.Dec.{eqb}
+use lib.ListN.{length}
+use Rattle.words.specs.Runs.{every, four_zero}
+use Rattle.words.proofs.four_zero.Given as goal
+
+abbrev pub invariant-loop-i : goal.invariant-loop-i
+invariant-loop-i l =
+    (l.i ≤ l.n)
+    × (((2 * (l.a + l.n) ≤ length l.l) × (2 * (l.b + l.n) ≤ length l.l)) × ((2 * (l.c + l.n) ≤ length l.l) × (2 * (l.d + l.n) ≤ length l.l)))
+    × (eqb l.joined 0 ≡ every (four_zero l.l l.a l.b l.c l.d) 0 l.i)
+
+abbrev pub decreases-loop-i : goal.decreases-loop-i
+decreases-loop-i l = l.n - l.i
