@@ -1,8 +1,7 @@
 -- The sections of the table that specs/Layout shows.
 use mathlib.Core.Path.{◌≡◌, refl}
-use mathlib.Core.List.{List, [], ◌∷◌}
+use mathlib.Core.List.{[], ◌∷◌}
 use mathlib.Core.Bool.{false}
-use Prim.Native.Nat.{ℕ}
 use Rattle.model.specs.Tables.{Table}
 use Rattle.model.specs.Named.{no_keysyms}
 use Rattle.model.specs.declared.events.Detail.{Detail}

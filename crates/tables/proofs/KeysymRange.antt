@@ -3,9 +3,9 @@ use Prim.Native.Nat.{ℕ, suc, ◌+◌, ◌/◌, ◌%◌, ◌≤◌, ◌<◌}
 use native.Mathlib.Omega.{arith}
 use mathlib.Core.Path.{◌≡◌, refl}
 use mathlib.Core.List.{List, [], ◌∷◌}
-use mathlib.Core.Bool.{Bool, true, false, cond, not, ◌&&◌, ◌||◌}
+use mathlib.Core.Bool.{Bool, true, false, cond}
 use lib.Dec.{eqb, leb, ltb}
-use borrow.Author.Tests.{eqb-true, eqb-false, ltb-true, ltb-false, le-leb, lt-ltb, ne_eqb}
+use borrow.Author.Tests.{eqb-false, ltb-true, ltb-false, le-leb, lt-ltb, ne_eqb}
 use Rattle.words.proofs.Bools.{and_both}
 use Rattle.model.specs.Named.{listed_mark, marked_keysym, is_listed, mark_listed, with_keysym, keysyms_in}
 use Rattle.tables.specs.Fitting.{keysym_in_range, comes_after, keysyms_in_range}

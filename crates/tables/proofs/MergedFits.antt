@@ -1,16 +1,15 @@
 -- The merge of two tables that fit, neither itself merged, fits where no limit is passed.
-use Prim.Native.Nat.{ℕ, ◌+◌, ◌≤◌}
-use mathlib.Core.Path.{◌≡◌, refl, sym, ap, ◌∙◌}
-use mathlib.Core.List.{List, [], ◌∷◌, ◌++◌, map}
-use mathlib.Core.Bool.{Bool, true, false, cond, not, ◌&&◌, ◌||◌}
+use mathlib.Core.Path.{◌≡◌, refl}
+use mathlib.Core.List.{List, [], ◌∷◌, map}
+use mathlib.Core.Bool.{Bool, true, false, cond, not, ◌||◌}
 use borrow.Author.Tests.{not-true}
 use Rattle.words.proofs.Bools.{and_left, and_right, and_both}
 use Rattle.model.specs.Lists.{all, those}
 use Rattle.model.specs.Tables.{Call, Production, Table}
 use Rattle.model.specs.Merging.{is_among, without, merged_productions, mark_second, from_second, merged_table, merge_passes_limit}
 use Rattle.model.specs.declared.events.Directive.{Directive}
-use Rattle.tables.specs.Layout.{flat, all_events, all_calls}
-use Rattle.tables.specs.Fitting.{event_in_range, span_in_text, text_length, call_in_range, has_event, fitting}
+use Rattle.tables.specs.Layout.{flat}
+use Rattle.tables.specs.Fitting.{event_in_range, call_in_range, has_event, fitting}
 use Rattle.tables.proofs.Lists.{all_append, all_append_left, all_append_right, all_weaker, all_flat}
 use Rattle.tables.proofs.Facts.{FitFacts, fit_facts, facts_fit, TextFacts, text_facts, facts_text, CallFacts, call_facts, facts_call}
 

@@ -20,7 +20,7 @@ returns-in_default c =
     let p = c.requires in
     c.refused.ensures
     ∙ refused_record (decode c.args.table.now) within setting p.0.1.mapped p.0.1.good call c.args.state p.1
-    c.in_default.field-0 (sym c.in_default.ensures.answer) c.number_of.result (c.number_of.ensures ∙ ap record_number c.in_default.ensures.answer)
+    c.in_default.field-0 (sym c.in_default.ensures.answer) c.number_of.result (c.number_of.ensures ∙ ap record_number c.read_record-read.ensures.answer)
 
 pub has_type-requires : goal.has_type-requires
 has_type-requires c = c.requires.0.0

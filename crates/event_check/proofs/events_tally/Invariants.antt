@@ -1,6 +1,6 @@
 -- `event_check::events_tally` meets its contract.
 use Prim.Native.Nat.{◌-◌, ◌*◌, ◌≤◌}
-use mathlib.Core.Path.{◌≡◌, refl}
+use mathlib.Core.Path.{◌≡◌}
 use lib.Dec.{ltb}
 use lib.ListN.{length}
 use Rattle.words.specs.Runs.{every, total, low_at}

@@ -4,7 +4,6 @@ use Rattle.keysym_check.specs.Slots.{keysyms_ok}
 use Rattle.words.proofs.RunLaws.{every_more}
 use Rattle.words.specs.Runs.{every}
 use mathlib.Core.Path.{◌≡◌, refl, ◌∙◌}
-use Prim.Native.Nat.{◌-◌}
 use native.Mathlib.Nat.{zero-add}
 use native.Mathlib.Omega.{arith}
 use Rattle.keysym_check.proofs.each_ok.Goals as goal

@@ -3,7 +3,7 @@ use Rattle.keysym_check.specs.Slots.{keysyms_ok}
 use Rattle.tables.specs.Layout.{table_length}
 use Rattle.words.specs.Runs.{every}
 use lib.ListN.{length}
-use mathlib.Core.Path.{◌≡◌, refl}
+use mathlib.Core.Path.{◌≡◌}
 use Prim.Native.Nat.{◌-◌, ◌≤◌}
 use Rattle.keysym_check.proofs.each_ok.Given as goal
 

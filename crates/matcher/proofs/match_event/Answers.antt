@@ -7,31 +7,31 @@ use Rattle.matcher.proofs.MatchLaws.{Past, past, refused_first, call_is}
 use Rattle.matcher.proofs.AnswerLaws.{answered}
 use Rattle.matcher.proofs.match_event.Goals as goal
 
-abbrev setting : (c : tie.Start) → Setting
-setting c = lent_setting c.args.maps.now c.args.limit
-
-abbrev call : (c : tie.Start) → MatchCall
-call c = record { bytes = c.args.«record».now; order = c.args.order }
-
--- what holds past the refusals
-
-passed : (c : tie.Else1) → let b = c.before.before.before.before.before in Past b.args.table.now (setting b) b.args.state (call b)
-passed c =
-    let b = c.before.before.before.before.before in
-    past b.args.table.now (setting b) b.args.state (call b) (sym c.before.refusal.ensures ∙ c.if1.false)
-
 pub returns-then-number-ne0 : goal.returns-then-number-ne0
 returns-then-number-ne0 c =
-    answered c.args.table.now (setting b) c.args.state (call b) c.refused.result
-    (c.refused.ensures
-    ∙ refused_first c.args.table.now (setting b) c.args.state (call b) c.refusal-number.result c.refusal-number.ensures c.if-number-ne0.true)
+    let setting = lent_setting c.args.maps.now c.args.limit in
+    let call : MatchCall = record { bytes = c.args.«record».now; order = c.args.order } in
+    let r =
+        answered c.args.table.now setting c.args.state call c.refused.result
+        (c.refused.ensures
+        ∙ refused_first c.args.table.now setting c.args.state call c.refusal-number.result c.refusal-number.ensures c.if-number-ne0.true) in
+    record { answer = r.0; number = r.1.0; selection = r.1.1 }
 
 pub act-requires : goal.act-requires
 act-requires c =
-    let p = passed c in
-    ((p.is_whole, record { mapped = p.map_long; good = p.modifiers_good }), p.state_whole)
+    let setting = lent_setting c.args.maps.now c.args.limit in
+    let call : MatchCall = record { bytes = c.args.«record».now; order = c.args.order } in
+    -- what holds past the refusals
+    let passed = past c.args.table.now setting c.args.state call (sym c.refusal-number.ensures ∙ c.if-number-ne0.false) in
+    ((passed.is_whole, record { mapped = passed.map_long; good = passed.modifiers_good }), passed.state_whole)
 
 pub returns : goal.returns
 returns c =
-    answered c.args.table.now (setting b) c.args.state (call b) c.act.result
-    (c.act.ensures ∙ call_is c.args.table.now (setting b) c.args.state (call b) (passed c.before))
+    let setting = lent_setting c.args.maps.now c.args.limit in
+    let call : MatchCall = record { bytes = c.args.«record».now; order = c.args.order } in
+    -- what holds past the refusals
+    let passed = past c.args.table.now setting c.args.state call (sym c.refusal-number.ensures ∙ c.if-number-ne0.false) in
+    let r =
+        answered c.args.table.now setting c.args.state call c.act.result
+        (c.act.ensures ∙ call_is c.args.table.now setting c.args.state call passed) in
+    record { answer = r.0; number = r.1.0; selection = r.1.1 }

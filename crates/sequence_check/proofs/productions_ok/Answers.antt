@@ -1,7 +1,6 @@
 -- `sequence_check::productions_ok` meets its contract.
 use borrow.Author.Rules.{rules}
 use native.Mathlib.Omega.{arith}
-use Prim.Native.Nat.{◌-◌}
 use mathlib.Core.Path.{◌≡◌, refl, ◌∙◌}
 use Rattle.sequence_check.specs.Sequences.{production_ok}
 use Rattle.words.specs.Words.{word_at}

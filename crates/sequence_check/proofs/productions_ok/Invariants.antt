@@ -1,6 +1,6 @@
 -- `sequence_check::productions_ok` meets its contract.
 use Prim.Native.Nat.{◌-◌, ◌≤◌}
-use mathlib.Core.Path.{◌≡◌, refl}
+use mathlib.Core.Path.{◌≡◌}
 use lib.ListN.{length}
 use Rattle.sequence_check.specs.Sequences.{production_ok}
 use Rattle.words.specs.Words.{word_at}

@@ -1,7 +1,7 @@
 -- `sequence_check::sizes` meets its contract.
 use borrow.Author.Rules.{rules}
 use native.Mathlib.Omega.{arith}
-use Prim.Native.Nat.{◌-◌, ◌≤◌}
+use Prim.Native.Nat.{◌≤◌}
 use mathlib.Core.Path.{◌≡◌, refl, ◌∙◌}
 use Rattle.sequence_check.specs.Sequences.{size_at}
 use Rattle.words.specs.Runs.{total}

@@ -1,6 +1,6 @@
 -- `sequence_check::sizes` meets its contract.
 use Prim.Native.Nat.{◌+◌, ◌-◌, ◌*◌, ◌≤◌}
-use mathlib.Core.Path.{◌≡◌, refl}
+use mathlib.Core.Path.{◌≡◌}
 use lib.ListN.{length}
 use Rattle.sequence_check.specs.Sequences.{size_at}
 use Rattle.words.specs.Runs.{total}

@@ -1,7 +1,6 @@
 -- `span_check::low_sum` meets its contract.
 use borrow.Author.Rules.{rules}
 use native.Mathlib.Omega.{arith}
-use Prim.Native.Nat.{◌-◌}
 use mathlib.Core.Path.{◌≡◌, refl, ◌∙◌}
 use Rattle.words.specs.Runs.{total, low_at}
 use Rattle.words.proofs.RunLaws.{total_more}

@@ -1,6 +1,6 @@
 -- `span_check::low_sum` meets its contract.
 use Prim.Native.Nat.{◌+◌, ◌-◌, ◌*◌, ◌≤◌}
-use mathlib.Core.Path.{◌≡◌, refl}
+use mathlib.Core.Path.{◌≡◌}
 use lib.ListN.{length}
 use Rattle.words.specs.Runs.{total, low_at}
 use Rattle.span_check.proofs.low_sum.Given as goal

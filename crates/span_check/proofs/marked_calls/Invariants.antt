@@ -1,6 +1,6 @@
 -- `span_check::marked_calls` meets its contract.
 use Prim.Native.Nat.{◌-◌, ◌*◌, ◌≤◌}
-use mathlib.Core.Path.{◌≡◌, refl}
+use mathlib.Core.Path.{◌≡◌}
 use lib.ListN.{length}
 use Rattle.words.specs.Words.{word_at}
 use Rattle.words.specs.Runs.{every, total, low_at}

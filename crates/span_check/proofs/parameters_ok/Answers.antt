@@ -1,7 +1,6 @@
 -- `span_check::parameters_ok` meets its contract.
 use borrow.Author.Rules.{rules}
 use native.Mathlib.Omega.{arith}
-use Prim.Native.Nat.{◌-◌}
 use mathlib.Core.Path.{◌≡◌, refl, ◌∙◌}
 use Rattle.span_check.specs.Spans.{parameters_ok}
 use Rattle.words.specs.Words.{word_at}

@@ -1,6 +1,6 @@
 -- `span_check::parameters_ok` meets its contract.
 use Prim.Native.Nat.{◌-◌, ◌≤◌}
-use mathlib.Core.Path.{◌≡◌, refl}
+use mathlib.Core.Path.{◌≡◌}
 use lib.ListN.{length}
 use Rattle.span_check.specs.Spans.{parameters_ok}
 use Rattle.words.specs.Words.{word_at}

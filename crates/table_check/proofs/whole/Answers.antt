@@ -3,16 +3,15 @@ use borrow.Author.Rules.{rules}
 use Rattle.table_check.proofs.Exact.{checks_exact}
 use Rattle.table_check.proofs.Stops.{checks_short, checks_header, checks_last}
 use Rattle.header_check.proofs.HeaderFacts.{HeaderFacts, header_facts}
-use borrow.Author.Tests.{not-true, not-false}
 use mathlib.Core.Path.{sym, ◌∙◌}
 use native.Mathlib.Omega.{arith}
 use Rattle.table_check.proofs.whole.Goals as goal
 
 pub returns-then-l-lt-TABLE_LENGTH : goal.returns-then-l-lt-TABLE_LENGTH
-returns-then-l-lt-TABLE_LENGTH c = sym (checks_short c.args.l.now (omega arith)) ∙ checks_exact c.args.l.now (λ i. omega (arith, c.shared_slice_known-1.given i))
+returns-then-l-lt-TABLE_LENGTH c = sym (checks_short c.args.l.now (omega arith)) ∙ checks_exact c.args.l.now (λ i. omega (arith, c.type_inv.l i))
 
 pub returns-then-not-header_ok : goal.returns-then-not-header_ok
-returns-then-not-header_ok c = sym (checks_header c.args.l.now (omega arith) (sym c.header_ok.ensures ∙ c.if-not-header_ok.true)) ∙ checks_exact c.args.l.now (λ i. omega (arith, c.shared_slice_known-1.given i))
+returns-then-not-header_ok c = sym (checks_header c.args.l.now (omega arith) (sym c.header_ok.ensures ∙ c.if-not-header_ok.true)) ∙ checks_exact c.args.l.now (λ i. omega (arith, c.type_inv.l i))
 
 pub unused_ok-requires : goal.unused_ok-requires
 unused_ok-requires c =
@@ -32,4 +31,4 @@ entries_ok-requires c =
 pub returns : goal.returns
 returns c =
     rw (c.unused_ok.ensures, c.slots_ok.ensures, c.entries_ok.ensures, c.word_at-events.ensures)
-    (sym (checks_last c.args.l.now (omega arith) (sym c.header_ok.ensures ∙ c.if-not-header_ok.false)) ∙ checks_exact c.args.l.now (λ i. omega (arith, c.shared_slice_known-1.given i)))
+    (sym (checks_last c.args.l.now (omega arith) (sym c.header_ok.ensures ∙ c.if-not-header_ok.false)) ∙ checks_exact c.args.l.now (λ i. omega (arith, c.type_inv.l i)))

@@ -1,19 +1,10 @@
--- the line adds a production
 use native.Mathlib.Omega.{arith}
 use mathlib.Core.Path.{refl, sym, ap, ◌∙◌, subst}
 use Rattle.lines.specs.declared.totals.Totals.{Totals}
 use Rattle.compiler.specs.declared.line.LineDone.{LineDone}
-use Rattle.compiler.specs.Progress.{Underway}
 use Rattle.compiler.specs.WholeLine.{AddedPut}
-use Rattle.compiler.proofs.LineSteps.{plain_blank, plain_refused, plain_added, stepped, underway_length, underway_in, outcome_refused, Adds, outcome_added, added_fits, added_totals, added_in, added_held}
+use Rattle.compiler.proofs.LineSteps.{plain_blank, plain_refused, plain_added, stepped, underway_length, underway_in, outcome_refused, outcome_added, added_fits, added_totals, added_in, added_held}
 use Rattle.compiler.proofs.line.add_line.Goals as goal
-
-adds : (c : tie.After-known-told2) (u : Underway c.before.before.before.before.before.before.before.before.before.before.before.before.args.s.totals c.before.before.before.before.before.before.before.before.before.before.before.before.args.out.now)
-    → Adds c.before.before.before.before.before.before.before.before.before.before.before.before.args.s.totals c.before.before.before.before.before.before.before.before.before.before.before.before.args.out.now u c.before.before.before.before.before.before.before.before.before.before.before.before.args.base c.before.before.before.before.before.before.before.before.before.before.before.before.args.l.now c.before.line.given.0.0
-adds c u =
-    let a = c.before.before.before.before.before.before.before.before.before.before.before.before.args in
-    outcome_added a.s.totals a.out.now u a.base a.l.now c.before.line.given.0.0
-    (sym c.before.line.given.1 ∙ c.before.before.before.before.before.judge-line.ensures.0 u.ps a.base u.totals u.kept)
 
 pub returns-then-is_blank_line : goal.returns-then-is_blank_line
 returns-then-is_blank_line c u =
@@ -32,12 +23,21 @@ put_production-requires c =
     let t = c.args.s.totals in
     let out = c.args.out.now in
     let u = c.requires.1 in
-    let f = added_fits t out u c.args.base c.args.l.now c.in-Add.line (adds c.before u) in
-    ((omega (arith, underway_length t out u, c.judge_line.auto.1.1.0), f.production), (omega (arith, f.few_events), omega (arith, f.few_calls_lem)))
+    -- the line adds a production
+    let x =
+      outcome_added c.args.s.totals c.args.out.now u c.args.base c.args.l.now c.in-Add.line
+      (sym c.in-Add.is ∙ c.judge_line.ensures.0 u.ps c.args.base u.totals u.kept) in
+    let f = added_fits t out u c.args.base c.args.l.now c.in-Add.line x in
+    ((omega (arith, underway_length t out u, c.judge_line.auto.out), f.production), (omega (arith, f.few_events), omega (arith, f.few_calls_lem)))
 
 pub with_line-more-requires : goal.with_line-more-requires
 with_line-more-requires c =
-    added_in c.args.s.totals c.args.out.now c.requires.1 c.args.base c.args.l.now c.in-Add.line (adds c.before.before.before.before c.requires.1)
+    let u = c.requires.1 in
+    -- the line adds a production
+    let x =
+      outcome_added c.args.s.totals c.args.out.now u c.args.base c.args.l.now c.in-Add.line
+      (sym c.in-Add.is ∙ c.judge_line.ensures.0 u.ps c.args.base u.totals u.kept) in
+    added_in c.args.s.totals c.args.out.now u c.args.base c.args.l.now c.in-Add.line x
 
 pub returns-in-Refuse : goal.returns-in-Refuse
 returns-in-Refuse c u =
@@ -53,7 +53,10 @@ returns-in-Add c u =
     let t = a.s.totals in
     let l = a.l.now in
     let line = c.in-Add.line in
-    let x = adds c.before.before.before.before.before u in
-    let w = subst (AddedPut a.base l t a.out.now c.judge_line.new.1.1.0) c.in-Add.is c.judge_line.ensures.1 in
+    -- the line adds a production
+    let x =
+      outcome_added c.args.s.totals c.args.out.now u c.args.base c.args.l.now c.in-Add.line
+      (sym c.in-Add.is ∙ c.judge_line.ensures.0 u.ps c.args.base u.totals u.kept) in
+    let w = subst (AddedPut a.base l t a.out.now c.judge_line.new.out) c.in-Add.is c.judge_line.ensures.1 in
     stepped u.rest _ _ (plain_added a.s.directive u.ps a.base l x.p (sym c.is_blank_line.ensures ∙ c.if-is_blank_line.false) x.outcome)
-    (ap (λ (n : Totals). LineDone.Done (record { directive = a.s.directive; totals = n })) (c.with_line-more.ensures ∙ added_totals t a.out.now u a.base l line x), added_held t a.out.now u a.base l line x c.judge_line.new.1.1.0 c.put_production.new.0 w c.put_production.ensures)
+    (ap (λ (n : Totals). LineDone.Done (record { directive = a.s.directive; totals = n })) (c.with_line-more.ensures ∙ added_totals t a.out.now u a.base l line x), added_held t a.out.now u a.base l line x c.judge_line.new.out c.put_production.new.out w c.put_production.ensures)

@@ -1,5 +1,4 @@
 -- `tables::read::call_name` meets its contract.
-use Prim.Native.Nat.{◌-◌}
 use Rattle.tables.specs.Reading.{name_entry}
 use Rattle.tables.proofs.read.call_name.Goals as goal
 

@@ -1,5 +1,4 @@
 -- `tables::read::detail_of` meets its contract.
-use Prim.Native.Nat.{◌-◌}
 use borrow.Author.Tests.{eq-eqb, ne_eqb}
 use Rattle.tables.proofs.read.detail_of.Goals as goal
 

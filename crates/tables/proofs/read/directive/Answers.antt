@@ -1,5 +1,4 @@
 -- `tables::read::directive` meets its contract.
-use Prim.Native.Nat.{◌-◌}
 use Rattle.tables.specs.Reading.{directive_in}
 use borrow.Author.Tests.{eq-eqb, ne_eqb}
 use Rattle.tables.proofs.read.directive.Goals as goal

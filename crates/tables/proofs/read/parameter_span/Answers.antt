@@ -1,5 +1,4 @@
 -- `tables::read::parameter_span` meets its contract.
-use Prim.Native.Nat.{◌-◌}
 use Rattle.tables.specs.Reading.{parameter_entry}
 use Rattle.tables.proofs.read.parameter_span.Goals as goal
 

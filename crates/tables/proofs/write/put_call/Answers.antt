@@ -1,5 +1,4 @@
 -- `tables::write::put_call` meets its contract.
-use Prim.Native.Nat.{◌-◌}
 use Rattle.tables.specs.Writing.{put_call}
 use Rattle.tables.proofs.write.put_call.Goals as goal
 

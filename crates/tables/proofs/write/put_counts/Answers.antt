@@ -1,5 +1,4 @@
 -- `tables::write::put_counts` meets its contract.
-use Prim.Native.Nat.{◌-◌}
 use Rattle.tables.specs.Writing.{put_counts}
 use Rattle.tables.proofs.write.put_counts.Goals as goal
 

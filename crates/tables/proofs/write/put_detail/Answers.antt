@@ -1,5 +1,4 @@
 -- `tables::write::put_detail` meets its contract.
-use Prim.Native.Nat.{◌-◌}
 use Rattle.tables.specs.Writing.{put_detail}
 use Rattle.tables.proofs.write.put_detail.Goals as goal
 

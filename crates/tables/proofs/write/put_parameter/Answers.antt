@@ -1,5 +1,4 @@
 -- `tables::write::put_parameter` meets its contract.
-use Prim.Native.Nat.{◌-◌}
 use Rattle.tables.specs.Writing.{put_parameter}
 use Rattle.tables.proofs.write.put_parameter.Goals as goal
 

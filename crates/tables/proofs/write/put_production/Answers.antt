@@ -1,5 +1,4 @@
 -- `tables::write::put_production` meets its contract.
-use Prim.Native.Nat.{◌-◌}
 use Rattle.tables.specs.Writing.{put_production}
 use Rattle.tables.proofs.write.put_production.Goals as goal
 

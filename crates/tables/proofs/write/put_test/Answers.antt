@@ -1,5 +1,4 @@
 -- `tables::write::put_test` meets its contract.
-use Prim.Native.Nat.{◌-◌}
 use Rattle.tables.specs.Writing.{put_test}
 use Rattle.tables.proofs.write.put_test.Goals as goal
 

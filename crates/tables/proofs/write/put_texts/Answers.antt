@@ -1,5 +1,4 @@
 -- `tables::write::put_texts` meets its contract.
-use Prim.Native.Nat.{◌-◌}
 use Rattle.tables.specs.Writing.{put_texts}
 use Rattle.tables.proofs.write.put_texts.Goals as goal
 

@@ -1,6 +1,6 @@
 -- `tally::compare::is_among` meets its contract. The invariant: the productions that are left decide, and `b` is the place of the next one's first event.
 use Prim.Native.Nat.{◌-◌, ◌≤◌, ◌<◌}
-use mathlib.Core.Path.{◌≡◌, refl, sym}
+use mathlib.Core.Path.{◌≡◌}
 use mathlib.Core.Bool.{true}
 use Rattle.model.specs.Merging.{is_among}
 use Rattle.words.specs.Runs.{run}

@@ -4,7 +4,6 @@ use native.Mathlib.Omega.{arith}
 use Prim.Native.Nat.{◌+◌, ◌-◌}
 use mathlib.Core.Path.{◌≡◌, sym, ◌∙◌}
 use mathlib.Core.Bool.{true, false, ◌&&◌}
-use borrow.Author.Tests.{not-true, not-false}
 use Rattle.model.specs.Merging.{same_event, same_events}
 use Rattle.words.specs.Runs.{run}
 use Rattle.tables.specs.Reading.{event_entry}

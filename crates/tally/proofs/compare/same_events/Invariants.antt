@@ -1,6 +1,6 @@
 -- `tally::compare::same_events` meets its contract. The invariant: what is left of both runs of events decides.
 use Prim.Native.Nat.{◌+◌, ◌-◌, ◌≤◌}
-use mathlib.Core.Path.{◌≡◌, sym}
+use mathlib.Core.Path.{◌≡◌}
 use lib.ListN.{length}
 use Rattle.model.specs.Merging.{same_events}
 use Rattle.words.specs.Runs.{run}

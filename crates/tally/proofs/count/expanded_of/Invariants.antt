@@ -1,6 +1,6 @@
 -- `tally::count::expanded_of` meets its contract. The invariant: the sum and what the events that are left stand for make up the whole.
 use Prim.Native.Nat.{◌+◌, ◌-◌, ◌*◌, ◌≤◌}
-use mathlib.Core.Path.{◌≡◌, refl, sym}
+use mathlib.Core.Path.{◌≡◌}
 use mathlib.Core.Bool.{true}
 use lib.ListN.{length}
 use Rattle.words.specs.Runs.{run}

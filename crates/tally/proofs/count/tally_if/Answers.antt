@@ -1,5 +1,4 @@
 -- `tally::count::tally_if` meets its contract.
-use borrow.Author.Tests.{not-true, not-false}
 use Rattle.tally.proofs.count.tally_if.Goals as goal
 
 pub returns-then-not-keep : goal.returns-then-not-keep

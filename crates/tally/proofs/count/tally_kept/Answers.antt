@@ -1,7 +1,7 @@
 -- `tally::count::tally_kept` meets its contract. The invariant: the tally and the productions that are left come to the whole tally.
 use borrow.Author.Rules.{rules}
 use native.Mathlib.Omega.{arith}
-use Prim.Native.Nat.{◌+◌, ◌-◌}
+use Prim.Native.Nat.{◌+◌}
 use mathlib.Core.Path.{◌≡◌, refl, sym, ap, ◌∙◌, subst}
 use mathlib.Core.Bool.{Bool, not, cond}
 use Rattle.tables.specs.Reading.{production_entry}

@@ -1,6 +1,6 @@
 -- `tally::count::tally_kept` meets its contract. The invariant: the tally and the productions that are left come to the whole tally.
 use Prim.Native.Nat.{◌-◌, ◌≤◌}
-use mathlib.Core.Path.{◌≡◌, refl, sym}
+use mathlib.Core.Path.{◌≡◌}
 use Rattle.tables.specs.Reading.{production_total}
 use Rattle.tally.specs.Counting.{tally_all}
 use Rattle.tally.specs.Kept.{kept_from}
