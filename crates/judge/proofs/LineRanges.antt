@@ -8,7 +8,7 @@ use lib.ListN.{length}
 use Rattle.model.specs.Lists.{any, bytes, part}
 use Rattle.model.specs.Bytes.{byte_at, sign_at, is_tab, run_end, skip}
 use Rattle.model.specs.Modifiers.{modifiers_of}
-use Rattle.model.specs.Events.{Modifier, ModifierList, is_named, is_none_or_any, stands_alone, Count, KeyChar, WrittenEvent, event, key, Modifiers, modifiers, EventsRead, events, list_of, type_at, count_at, with_detail, with_count, with_type, with_list, with_modifiers, lead_at, modifiers_at, plain_event_at, marked_key, key_at, one_more_key, keys_next, keys_from, key_sequence_at, events_from, events_at, after_event_at, join_events, after_events, left_next, left_from, left_side}
+use Rattle.model.specs.Events.{Modifier, ModifierList, is_named, is_none_or_any, stands_alone, Count, KeyChar, WrittenEvent, Modifiers, modifiers, EventsRead, events, list_of, type_at, count_at, with_detail, with_count, with_type, with_list, with_modifiers, lead_at, modifiers_at, plain_event_at, marked_key, key_at, one_more_key, keys_next, keys_from, key_sequence_at, events_from, events_at, after_event_at, join_events, after_events, left_next, left_from, left_side}
 use Rattle.model.specs.declared.scan.Class.{Class}
 use Rattle.model.specs.declared.scan.Lead.{Lead}
 use Rattle.model.specs.declared.scan.TypeRead.{TypeRead}

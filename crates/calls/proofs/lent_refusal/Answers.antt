@@ -1,7 +1,6 @@
 -- `calls::lent_refusal` meets its contract.
 use native.Mathlib.Omega.{arith}
 use mathlib.Core.Path.{sym, ◌∙◌}
-use borrow.Author.Tests.{not-true, not-false}
 use Rattle.calls.proofs.Answered.{lent_short, lent_broken, lent_first_lem, lent_second_lem, lent_good}
 use Rattle.calls.proofs.lent_refusal.Goals as goal
 

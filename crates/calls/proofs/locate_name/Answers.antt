@@ -1,11 +1,7 @@
 -- `calls::locate_name` meets its contract.
 use native.Mathlib.Omega.{arith}
 use mathlib.Core.Path.{◌≡◌, sym, ◌∙◌}
-use Prim.Native.Nat.{ℕ, ◌<◌}
-use mathlib.Core.List.{List}
 use Rattle.tables.proofs.Theorems.{whole_length}
-use mathlib.Core.Bool.{true}
-use Rattle.tables.specs.Whole.{whole}
 use Rattle.calls.specs.declared.Place.{Place}
 use Rattle.calls.specs.Refusals.{lent_refusal}
 use Rattle.calls.specs.Places.{place_of}
@@ -27,6 +23,7 @@ call_mark-requires c =
     let t = c.args.table.now in
     let z : lent_refusal t c.args.first.now c.args.second.now ≡ 0 = sym c.lent_refusal-refusal.ensures ∙ omega arith in
     let w = lent_whole t c.args.first.now c.args.second.now z in
+    -- the call was found
     let found : place_of t c.args.production c.args.call ≡ Place.At c.in-At.i = sym c.find_call-place.ensures ∙ c.in-At.is in
     (whole_length t w, called_below t c.args.production c.args.call c.in-At.i w found)
 

@@ -1,11 +1,7 @@
 -- `calls::locate_parameter` meets its contract.
 use native.Mathlib.Omega.{arith}
 use mathlib.Core.Path.{◌≡◌, sym, ◌∙◌}
-use Prim.Native.Nat.{◌+◌, ◌<◌}
 use Rattle.tables.proofs.Theorems.{whole_length}
-use mathlib.Core.Bool.{true}
-use Rattle.tables.specs.Whole.{whole}
-use Rattle.tables.specs.Reading.{call_total, call_parameters, first_parameter}
 use Rattle.calls.specs.declared.Place.{Place}
 use Rattle.calls.specs.Refusals.{lent_refusal}
 use Rattle.calls.specs.Places.{place_of}
@@ -27,6 +23,7 @@ call_parameters-requires c =
     let t = c.args.table.now in
     let z : lent_refusal t c.args.first.now c.args.second.now ≡ 0 = sym c.lent_refusal-refusal.ensures ∙ omega arith in
     let w = lent_whole t c.args.first.now c.args.second.now z in
+    -- the call was found
     let found : place_of t c.args.production c.args.call ≡ Place.At c.in-At.i = sym c.find_call-place.ensures ∙ c.in-At.is in
     (whole_length t w, called_below t c.args.production c.args.call c.in-At.i w found)
 
@@ -54,6 +51,7 @@ overflow_add-k c =
     let w = lent_whole t c.args.first.now c.args.second.now z in
     let found : place_of t c.args.production c.args.call ≡ Place.At c.in-At.i = sym c.find_call-place.ensures ∙ c.in-At.is in
     let e = c.call_parameters.ensures in
+    -- the call has that parameter
     let h = parameter_below t c.in-At.i c.args.parameter w (place_below t c.args.production c.args.call c.in-At.i w found) (omega arith) in
     let f = c.parameters_from.ensures in
     omega arith

@@ -2,8 +2,6 @@
 use native.Mathlib.Omega.{arith}
 use mathlib.Core.Path.{◌≡◌, sym, ◌∙◌}
 use Rattle.tables.proofs.Theorems.{whole_length}
-use mathlib.Core.Bool.{true}
-use Rattle.tables.specs.Whole.{whole}
 use Rattle.calls.specs.declared.Place.{Place}
 use Rattle.calls.specs.Refusals.{table_refusal}
 use Rattle.calls.specs.Places.{place_of}
@@ -25,6 +23,7 @@ call_parameters-requires c =
     let t = c.args.table.now in
     let z : table_refusal t ≡ 0 = sym c.table_refusal-refusal.ensures ∙ omega arith in
     let w = table_whole t z in
+    -- the call was found
     let found : place_of t c.args.production c.args.call ≡ Place.At c.in-At.i = sym c.find_call-place.ensures ∙ c.in-At.is in
     (whole_length t w, called_below t c.args.production c.args.call c.in-At.i w found)
 

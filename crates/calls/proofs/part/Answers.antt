@@ -9,6 +9,7 @@ use Rattle.calls.proofs.part.Goals as goal
 
 pub overflow_add-result : goal.overflow_add-result
 overflow_add-result c =
+    -- the part lies in its text
     let h : c.in-First.start + c.in-First.len ≤ length c.args.first.now = subst (PartWithin c.args.first.now c.args.second.now) c.in-First.is c.requires in
     omega arith
 

@@ -1,7 +1,6 @@
 -- `calls::table_refusal` meets its contract.
 use native.Mathlib.Omega.{arith}
 use mathlib.Core.Path.{sym, ◌∙◌}
-use borrow.Author.Tests.{not-true, not-false}
 use Rattle.calls.proofs.Answered.{table_short, table_broken_lem, table_good}
 use Rattle.calls.proofs.table_refusal.Goals as goal
 

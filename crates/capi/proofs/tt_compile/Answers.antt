@@ -8,7 +8,10 @@ use Rattle.capi.proofs.Bounds.{place_small}
 use Rattle.capi.proofs.tt_compile.Goals as goal
 
 pub compiled_word-requires : goal.compiled_word-requires
-compiled_word-requires c = subst (λ (a : Compiled). compiled_place a ≤ 8192) (sym c.compile.ensures.0) (place_small _ _)
+compiled_word-requires c = subst (λ (a : Compiled). compiled_place a ≤ 8192) (sym c.compile.ensures.answer) (place_small _ _)
 
 pub returns : goal.returns
-returns c = (c.compiled_word.ensures ∙ ap compiled_word c.compile.ensures.0, c.compile.ensures.1.0)
+returns c = record {
+  value = c.compiled_word.ensures ∙ ap compiled_word c.compile.ensures.answer;
+  table_after = c.compile.ensures.bytes;
+}

@@ -4,9 +4,11 @@ use Rattle.capi.proofs.Matches.{fresh_short, fresh_long}
 use Rattle.capi.proofs.tt_fresh.Goals as goal
 
 pub returns-then-state-lt-STATE_LENGTH : goal.returns-then-state-lt-STATE_LENGTH
-returns-then-state-lt-STATE_LENGTH c = fresh_short _ c.if-state-lt-STATE_LENGTH.true
+returns-then-state-lt-STATE_LENGTH c =
+    let h = fresh_short c.args.state.now c.if-state-lt-STATE_LENGTH.true in
+    record { value = h.0; state_after = h.1 }
 
 pub returns : goal.returns
 returns c =
     let h = fresh_long c.args.state.now c.if-state-lt-STATE_LENGTH.false in
-    (h.0, c.clear.ensures ∙ h.1)
+    record { value = h.0; state_after = c.clear.ensures ∙ h.1 }

@@ -4,4 +4,7 @@ use Rattle.capi.specs.Answers.{merged_word}
 use Rattle.capi.proofs.tt_merge.Goals as goal
 
 pub returns : goal.returns
-returns c = (c.merged_word.ensures ∙ ap merged_word c.merge.ensures.0, c.merge.ensures.1.1)
+returns c = record {
+  value = c.merged_word.ensures ∙ ap merged_word c.merge.ensures.answer;
+  out_after = c.merge.ensures.bytes;
+}

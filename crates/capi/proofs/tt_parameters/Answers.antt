@@ -8,7 +8,7 @@ use Rattle.capi.proofs.Bounds.{parameters_small}
 use Rattle.capi.proofs.tt_parameters.Goals as goal
 
 pub counted_word-requires : goal.counted_word-requires
-counted_word-requires c = subst (λ (a : Counted). counted_count a ≤ 64) (sym c.parameter_count.ensures.0) (parameters_small _ _ _)
+counted_word-requires c = subst (λ (a : Counted). counted_count a ≤ 64) (sym c.parameter_count.ensures.answer) (parameters_small _ _ _)
 
 pub returns : goal.returns
-returns c = c.counted_word.ensures ∙ ap counted_word c.parameter_count.ensures.0
+returns c = c.counted_word.ensures ∙ ap counted_word c.parameter_count.ensures.answer

@@ -8,7 +8,7 @@ use Rattle.capi.proofs.Bounds.{productions_small}
 use Rattle.capi.proofs.tt_productions.Goals as goal
 
 pub counted_word-requires : goal.counted_word-requires
-counted_word-requires c = subst (λ (a : Counted). counted_count a ≤ 64) (sym c.productions.ensures.0) (productions_small _)
+counted_word-requires c = subst (λ (a : Counted). counted_count a ≤ 64) (sym c.productions.ensures.answer) (productions_small _)
 
 pub returns : goal.returns
-returns c = c.counted_word.ensures ∙ ap counted_word c.productions.ensures.0
+returns c = c.counted_word.ensures ∙ ap counted_word c.productions.ensures.answer

@@ -1,7 +1,6 @@
 -- `merger::judged` meets its contract.
 use mathlib.Core.Path.{◌≡◌, sym, ap, ◌∙◌}
 use mathlib.Core.Bool.{true, false}
-use borrow.Author.Tests.{not-true, not-false}
 use Rattle.tables.specs.Whole.{whole}
 use Rattle.tables.specs.Reading.{decode}
 use Rattle.model.specs.Merging.{merge_passes_limit}

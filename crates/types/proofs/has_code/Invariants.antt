@@ -1,6 +1,6 @@
 -- `types::has_code` meets its contract.
 use Prim.Native.Nat.{◌-◌, ◌≤◌}
-use mathlib.Core.Path.{◌≡◌, sym}
+use mathlib.Core.Path.{◌≡◌}
 use Rattle.types.specs.Types.{any_below, has_code}
 use Rattle.types.proofs.has_code.Given as goal
 

@@ -1,6 +1,6 @@
 -- `types::has_either` meets its contract.
 use Prim.Native.Nat.{◌-◌, ◌≤◌}
-use mathlib.Core.Path.{◌≡◌, sym}
+use mathlib.Core.Path.{◌≡◌}
 use Rattle.types.specs.Types.{any_below, has_either}
 use Rattle.types.proofs.has_either.Given as goal
 

@@ -5,4 +5,4 @@ use Rattle.capi.proofs.state.store_state.Goals as goal
 pub returns : goal.returns
 returns c =
     let a = c.args in
-    state_stored a.t2 a.out.now _ _ c.store-marks.ensures c.store_events.ensures
+    state_stored a.s a.out.now _ _ c.store_marks.ensures c.store_events.ensures

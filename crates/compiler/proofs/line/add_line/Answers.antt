@@ -25,8 +25,8 @@ put_production-requires c =
     let u = c.requires.1 in
     -- the line adds a production
     let x =
-      outcome_added c.args.s.totals c.args.out.now u c.args.base c.args.l.now c.in-Add.line
-      (sym c.in-Add.is ∙ c.judge_line.ensures.0 u.ps c.args.base u.totals u.kept) in
+    outcome_added c.args.s.totals c.args.out.now u c.args.base c.args.l.now c.in-Add.line
+    (sym c.in-Add.is ∙ c.judge_line.ensures.0 u.ps c.args.base u.totals u.kept) in
     let f = added_fits t out u c.args.base c.args.l.now c.in-Add.line x in
     ((omega (arith, underway_length t out u, c.judge_line.auto.out), f.production), (omega (arith, f.few_events), omega (arith, f.few_calls_lem)))
 
@@ -35,8 +35,8 @@ with_line-more-requires c =
     let u = c.requires.1 in
     -- the line adds a production
     let x =
-      outcome_added c.args.s.totals c.args.out.now u c.args.base c.args.l.now c.in-Add.line
-      (sym c.in-Add.is ∙ c.judge_line.ensures.0 u.ps c.args.base u.totals u.kept) in
+    outcome_added c.args.s.totals c.args.out.now u c.args.base c.args.l.now c.in-Add.line
+    (sym c.in-Add.is ∙ c.judge_line.ensures.0 u.ps c.args.base u.totals u.kept) in
     added_in c.args.s.totals c.args.out.now u c.args.base c.args.l.now c.in-Add.line x
 
 pub returns-in-Refuse : goal.returns-in-Refuse
@@ -55,8 +55,8 @@ returns-in-Add c u =
     let line = c.in-Add.line in
     -- the line adds a production
     let x =
-      outcome_added c.args.s.totals c.args.out.now u c.args.base c.args.l.now c.in-Add.line
-      (sym c.in-Add.is ∙ c.judge_line.ensures.0 u.ps c.args.base u.totals u.kept) in
+    outcome_added c.args.s.totals c.args.out.now u c.args.base c.args.l.now c.in-Add.line
+    (sym c.in-Add.is ∙ c.judge_line.ensures.0 u.ps c.args.base u.totals u.kept) in
     let w = subst (AddedPut a.base l t a.out.now c.judge_line.new.out) c.in-Add.is c.judge_line.ensures.1 in
     stepped u.rest _ _ (plain_added a.s.directive u.ps a.base l x.p (sym c.is_blank_line.ensures ∙ c.if-is_blank_line.false) x.outcome)
     (ap (λ (n : Totals). LineDone.Done (record { directive = a.s.directive; totals = n })) (c.with_line-more.ensures ∙ added_totals t a.out.now u a.base l line x), added_held t a.out.now u a.base l line x c.judge_line.new.out c.put_production.new.out w c.put_production.ensures)

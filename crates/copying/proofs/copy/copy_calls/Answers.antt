@@ -1,9 +1,8 @@
 -- `copying::copy::copy_calls` meets its contract. The invariant: putting what is left gives the whole.
 use borrow.Author.Rules.{rules}
 use native.Mathlib.Omega.{arith}
-use Prim.Native.Nat.{◌+◌, ◌-◌}
+use Prim.Native.Nat.{◌+◌}
 use mathlib.Core.Path.{refl, sym, ◌∙◌}
-use mathlib.Core.Bool.{true}
 use Rattle.tables.specs.Reading.{call_entry, parameter_entry, first_parameter, call_parameters}
 use Rattle.tally.proofs.WholeFacts as facts
 use Rattle.copying.specs.Copying.{put_call_in}

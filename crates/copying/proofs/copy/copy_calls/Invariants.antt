@@ -1,6 +1,6 @@
 -- `copying::copy::copy_calls` meets its contract. The invariant: putting what is left gives the whole.
 use Prim.Native.Nat.{◌+◌, ◌-◌, ◌≤◌}
-use mathlib.Core.Path.{◌≡◌, refl, sym}
+use mathlib.Core.Path.{◌≡◌}
 use mathlib.Core.Bool.{true}
 use lib.ListN.{length}
 use Rattle.words.specs.Runs.{run}

@@ -1,7 +1,6 @@
 -- `copying::copy::copy_events` meets its contract. The invariant: putting what is left gives the whole.
 use borrow.Author.Rules.{rules}
 use native.Mathlib.Omega.{arith}
-use Prim.Native.Nat.{◌-◌}
 use mathlib.Core.Path.{refl, sym, ◌∙◌}
 use Rattle.tables.specs.Reading.{event_entry}
 use Rattle.tables.specs.Writing.{put_event}

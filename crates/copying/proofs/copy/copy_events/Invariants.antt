@@ -1,6 +1,6 @@
 -- `copying::copy::copy_events` meets its contract. The invariant: putting what is left gives the whole.
 use Prim.Native.Nat.{◌+◌, ◌-◌, ◌≤◌}
-use mathlib.Core.Path.{◌≡◌, refl, sym}
+use mathlib.Core.Path.{◌≡◌}
 use lib.ListN.{length}
 use Rattle.words.specs.Runs.{run}
 use Rattle.tables.specs.Reading.{event_entry}

@@ -1,6 +1,5 @@
 -- `copying::copy::copy_if` meets its contract.
 use borrow.Author.Rules.{rules}
-use borrow.Author.Tests.{not-true, not-false}
 use Rattle.copying.proofs.copy.copy_if.Goals as goal
 
 pub returns-then-not-keep : goal.returns-then-not-keep

@@ -1,7 +1,7 @@
 -- `copying::copy::copy_kept` meets its contract. The invariant: putting the productions that are left gives the whole, in bytes and in the tally.
 use borrow.Author.Rules.{rules}
 use native.Mathlib.Omega.{arith}
-use Prim.Native.Nat.{◌+◌, ◌-◌, ◌≤◌, ◌<◌}
+use Prim.Native.Nat.{◌+◌, ◌≤◌, ◌<◌}
 use mathlib.Core.Path.{◌≡◌, refl, sym, ap, ◌∙◌, subst}
 use mathlib.Core.Bool.{Bool, not, cond}
 use Rattle.tables.specs.Reading.{production_total, production_entry}

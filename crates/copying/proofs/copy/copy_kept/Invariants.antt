@@ -1,6 +1,6 @@
 -- `copying::copy::copy_kept` meets its contract. The invariant: putting the productions that are left gives the whole, in bytes and in the tally.
 use Prim.Native.Nat.{◌-◌, ◌≤◌}
-use mathlib.Core.Path.{◌≡◌, refl, sym}
+use mathlib.Core.Path.{◌≡◌}
 use lib.ListN.{length}
 use Rattle.tables.specs.Reading.{production_total}
 use Rattle.tally.specs.Counting.{tally_all}

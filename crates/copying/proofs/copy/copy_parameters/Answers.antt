@@ -1,9 +1,8 @@
 -- `copying::copy::copy_parameters` meets its contract. The invariant: putting what is left gives the whole.
 use borrow.Author.Rules.{rules}
 use native.Mathlib.Omega.{arith}
-use Prim.Native.Nat.{◌+◌, ◌-◌}
+use Prim.Native.Nat.{◌+◌}
 use mathlib.Core.Path.{refl, sym, ◌∙◌}
-use mathlib.Core.Bool.{true}
 use Rattle.tables.specs.Reading.{parameter_entry}
 use Rattle.tally.proofs.WholeFacts as facts
 use Rattle.tables.specs.Writing.{put_parameter}

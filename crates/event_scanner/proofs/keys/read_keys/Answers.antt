@@ -1,5 +1,5 @@
 -- what is left from i on gives the whole; f is fuel that suffices there
-use Prim.Native.Nat.{◌+◌, ◌-◌, pred}
+use Prim.Native.Nat.{◌+◌, pred}
 use Rattle.model.specs.Events.{key_at, keys_from}
 use Rattle.model.specs.declared.scan.KeyRead.{KeyRead}
 use Rattle.event_scanner.proofs.KeyCounts.{keyed_end, keyed_more, keyed_start, keyed_from, keys_step}

@@ -4,7 +4,7 @@ use Rattle.model.specs.Events.{keys_from}
 use Rattle.event_scanner.proofs.KeyCounts.{keyed_from}
 use Rattle.event_scanner.specs.Spans.{keyed}
 use lib.ListN.{length}
-use mathlib.Core.Path.{◌≡◌, sym}
+use mathlib.Core.Path.{◌≡◌}
 use Rattle.event_scanner.proofs.keys.read_keys.Given as goal
 
 abbrev pub invariant-loop-next : goal.invariant-loop-next

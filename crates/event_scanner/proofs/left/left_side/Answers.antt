@@ -1,5 +1,5 @@
 -- what is left from at on gives the whole; f is fuel that suffices there
-use Prim.Native.Nat.{◌+◌, ◌-◌, pred}
+use Prim.Native.Nat.{◌+◌, pred}
 use Rattle.model.specs.Events.{left_side}
 use Rattle.model.specs.declared.scan.AfterEvent.{AfterEvent}
 use Rattle.event_scanner.proofs.LeftSide.{event_step_in, left_step_lem}

@@ -3,7 +3,7 @@ use Prim.Native.Nat.{◌+◌, ◌-◌, ◌<◌, ◌≤◌, ℕ}
 use Rattle.model.specs.Events.{left_from, left_side}
 use Rattle.event_scanner.specs.LeftSide.{left_of}
 use lib.ListN.{length}
-use mathlib.Core.Path.{◌≡◌, refl, sym}
+use mathlib.Core.Path.{◌≡◌}
 use Rattle.event_scanner.proofs.left.left_side.Given as goal
 
 abbrev pub invariant-loop-next : goal.invariant-loop-next

@@ -17,12 +17,12 @@ returns-then-n-ne0 c =
     let a = c.args in
     -- the number that was picked
     let number : c.event_order-n.result ≡ parts_number a.s a.ty a.c a.d =
-      c.event_order-n.ensures
-      ∙ parts_number_lem a.s a.ty a.c a.d
-      c.set_of-set.result c.clear_of-clear.result c.clause_of-clause.result
-      c.set_of-set.ensures c.clear_of-clear.ensures c.clause_of-clause.ensures
-      c.takes_modifiers-takes.result c.colon_misplaced-colon.result c.no_state_meets-impossible.result
-      c.takes_modifiers-takes.ensures c.colon_misplaced-colon.ensures c.no_state_meets-impossible.ensures in
+    c.event_order-n.ensures
+    ∙ parts_number_lem a.s a.ty a.c a.d
+    c.set_of-set.result c.clear_of-clear.result c.clause_of-clause.result
+    c.set_of-set.ensures c.clear_of-clear.ensures c.clause_of-clause.ensures
+    c.takes_modifiers-takes.result c.colon_misplaced-colon.result c.no_state_meets-impossible.result
+    c.takes_modifiers-takes.ensures c.colon_misplaced-colon.ensures c.no_state_meets-impossible.ensures in
     refuses _ _ _ _ _ number c.if-n-ne0.true
 
 pub returns-then-s : goal.returns-then-s
@@ -30,12 +30,12 @@ returns-then-s c =
     let a = c.args in
     -- the number that was picked
     let number : c.event_order-n.result ≡ parts_number a.s a.ty a.c a.d =
-      c.event_order-n.ensures
-      ∙ parts_number_lem a.s a.ty a.c a.d
-      c.set_of-set.result c.clear_of-clear.result c.clause_of-clause.result
-      c.set_of-set.ensures c.clear_of-clear.ensures c.clause_of-clause.ensures
-      c.takes_modifiers-takes.result c.colon_misplaced-colon.result c.no_state_meets-impossible.result
-      c.takes_modifiers-takes.ensures c.colon_misplaced-colon.ensures c.no_state_meets-impossible.ensures in
+    c.event_order-n.ensures
+    ∙ parts_number_lem a.s a.ty a.c a.d
+    c.set_of-set.result c.clear_of-clear.result c.clause_of-clause.result
+    c.set_of-set.ensures c.clear_of-clear.ensures c.clause_of-clause.ensures
+    c.takes_modifiers-takes.result c.colon_misplaced-colon.result c.no_state_meets-impossible.result
+    c.takes_modifiers-takes.ensures c.colon_misplaced-colon.ensures c.no_state_meets-impossible.ensures in
     crowds _ _ _ _ _ number c.if-n-ne0.false c.if-s.true
 
 pub returns : goal.returns
@@ -43,11 +43,11 @@ returns c =
     let a = c.args in
     -- the number that was picked
     let number : c.event_order-n.result ≡ parts_number a.s a.ty a.c a.d =
-      c.event_order-n.ensures
-      ∙ parts_number_lem a.s a.ty a.c a.d
-      c.set_of-set.result c.clear_of-clear.result c.clause_of-clause.result
-      c.set_of-set.ensures c.clear_of-clear.ensures c.clause_of-clause.ensures
-      c.takes_modifiers-takes.result c.colon_misplaced-colon.result c.no_state_meets-impossible.result
-      c.takes_modifiers-takes.ensures c.colon_misplaced-colon.ensures c.no_state_meets-impossible.ensures in
+    c.event_order-n.ensures
+    ∙ parts_number_lem a.s a.ty a.c a.d
+    c.set_of-set.result c.clear_of-clear.result c.clause_of-clause.result
+    c.set_of-set.ensures c.clear_of-clear.ensures c.clause_of-clause.ensures
+    c.takes_modifiers-takes.result c.colon_misplaced-colon.result c.no_state_meets-impossible.result
+    c.takes_modifiers-takes.ensures c.colon_misplaced-colon.ensures c.no_state_meets-impossible.ensures in
     keeps _ _ _ _ _ _ _ c.set_of-set.ensures c.clear_of-clear.ensures c.clause_of-clause.ensures
     _ _ number c.if-n-ne0.false c.if-s.false c.kept_event.ensures

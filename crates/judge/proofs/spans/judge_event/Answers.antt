@@ -24,8 +24,8 @@ pub returns-in-Unknown : goal.returns-in-Unknown
 unfolding judged_written
 returns-in-Unknown c =
     let t =
-      with_number (written_in c.args.l.now c.args.e) (Judged.Refuse 5)
-      (sym (ap (judged_as (written_in c.args.l.now c.args.e)) (sym c.type_named.ensures ∙ c.in-Unknown.is))) in
+    with_number (written_in c.args.l.now c.args.e) (Judged.Refuse 5)
+    (sym (ap (judged_as (written_in c.args.l.now c.args.e)) (sym c.type_named.ensures ∙ c.in-Unknown.is))) in
     record { answer = t.0; number = t.1 }
 
 pub returns-in-Known : goal.returns-in-Known
@@ -33,11 +33,11 @@ returns-in-Known c =
     let known = sym c.type_named.ensures ∙ c.in-Known.is in
     let w = written_in c.args.l.now c.args.e in
     let t =
-      with_number w c.judge_parts.result
-      (c.judge_parts.ensures
-      ∙ judged_from w _ _ _ _
-      (spans_rising c.args.l.now (λ i. omega (arith, c.type_inv.l i)) c.args.e.list)
-      known
-      c.list_of-s.ensures c.count_at-c.ensures
-      c.detail_of-d.ensures) in
+    with_number w c.judge_parts.result
+    (c.judge_parts.ensures
+    ∙ judged_from w _ _ _ _
+    (spans_rising c.args.l.now (λ i. omega (arith, c.type_inv.l i)) c.args.e.list)
+    known
+    c.list_of-s.ensures c.count_at-c.ensures
+    c.detail_of-d.ensures) in
     record { answer = t.0; number = t.1 }

@@ -1,5 +1,4 @@
 -- `judge::spans::modifiers_from` meets its contract. The loop's invariant: the value is that of the modifiers read so far.
-use mathlib.Core.Path.{sym}
 use Prim.Native.Nat.{◌-◌}
 use lib.ListN.{length}
 use Rattle.judge.proofs.Reading.{Read}

@@ -1,5 +1,5 @@
 use Prim.Native.Nat.{◌-◌}
-use mathlib.Core.Path.{◌≡◌, refl, sym}
+use mathlib.Core.Path.{◌≡◌}
 use lib.ListN.{length}
 use Rattle.line_writer.proofs.CallWalk.{ParametersWalk}
 use Rattle.line_writer.proofs.calls.write_parameters.Given as goal

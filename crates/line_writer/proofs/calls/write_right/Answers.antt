@@ -1,6 +1,6 @@
 use native.Mathlib.Omega.{arith}
-use Prim.Native.Nat.{◌-◌, ◌+◌}
-use mathlib.Core.Path.{◌≡◌, refl, sym, ◌∙◌, subst}
+use Prim.Native.Nat.{◌+◌}
+use mathlib.Core.Path.{refl, sym, ◌∙◌, subst}
 use Rattle.line_writer.specs.Reads.{CallPut}
 use Rattle.line_writer.proofs.CallWalk.{right_start, right_broken, right_end, call_bounds, right_more}
 use Rattle.line_writer.proofs.calls.write_right.Goals as goal

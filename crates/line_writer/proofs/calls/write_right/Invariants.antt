@@ -1,5 +1,5 @@
 use Prim.Native.Nat.{◌-◌}
-use mathlib.Core.Path.{◌≡◌, refl, sym}
+use mathlib.Core.Path.{◌≡◌}
 use lib.ListN.{length}
 use Rattle.line_writer.proofs.CallWalk.{CallsWalk}
 use Rattle.line_writer.proofs.calls.write_right.Given as goal

@@ -1,5 +1,4 @@
 use native.Mathlib.Omega.{arith}
-use Prim.Native.Nat.{◌-◌}
 use mathlib.Core.Path.{refl, sym, ap, ◌∙◌}
 use Rattle.line_writer.specs.Puts.{put_judged}
 use Rattle.line_writer.proofs.EventWalk.{keys_start, key_told, keys_at}

@@ -1,6 +1,5 @@
 use native.Mathlib.Omega.{arith}
-use mathlib.Core.Path.{◌≡◌, refl, sym, ◌∙◌}
-use lib.ListN.{length}
+use mathlib.Core.Path.{refl, sym, ◌∙◌}
 use Rattle.lines.proofs.Turns.{left_refused, left_broken, after_broken, left_colon, step_bounds, comma_bounds}
 use Rattle.line_writer.proofs.EventWalk.{walking_start, walking_colon, walking_comma}
 use Rattle.line_writer.proofs.events.write_left.Goals as goal

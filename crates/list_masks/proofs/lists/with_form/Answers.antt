@@ -8,7 +8,7 @@ use Rattle.list_masks.proofs.lists.with_form.Goals as goal
 pub overflow_cast-result : goal.overflow_cast-result
 overflow_cast-result c =
     let e : c.with_bit.result ≡ with_form c.args.names c.args.k =
-      c.with_bit.ensures ∙ with_bit_form c.args.names c.args.k (omega arith) (omega arith) in
+    c.with_bit.ensures ∙ with_bit_form c.args.names c.args.k (omega arith) (omega arith) in
     omega (arith, e, with_form_below c.args.names c.args.k)
 
 pub returns : goal.returns

@@ -3,7 +3,7 @@ use Prim.Native.Nat.{◌+◌, ◌-◌, ◌<◌, ◌≤◌, ℕ}
 use Rattle.model.specs.Events.{modifiers_at, modifiers_from}
 use Rattle.list_scanner.specs.ModifierLists.{summed, summed_from}
 use lib.ListN.{length}
-use mathlib.Core.Path.{◌≡◌, sym}
+use mathlib.Core.Path.{◌≡◌}
 use Rattle.list_scanner.proofs.lists.read_modifiers.Given as goal
 
 abbrev pub invariant-loop-end : goal.invariant-loop-end

@@ -1,6 +1,6 @@
 -- `numerals::number::number_in` meets its contract. The loop's invariant: the value so far and the bytes left give the number.
 -- Assumes nothing.
-use Prim.Native.Nat.{ℕ, ◌+◌, ◌-◌, ◌*◌, ◌≤◌, ◌<◌}
+use Prim.Native.Nat.{ℕ, ◌+◌, ◌*◌, ◌≤◌, ◌<◌}
 use native.Mathlib.Nat.{mul-le-mul_left, le-mul_of_pos_right}
 use native.Mathlib.Omega.{arith}
 use mathlib.Core.Path.{◌≡◌, sym, ap, ◌∙◌}
@@ -64,11 +64,11 @@ loop-i-preserved c =
       l.invariant.1,
       step
           ∙ elim c.if-value-limit.branch [
-              then-value-limit w ↦
+            | then-value-limit w ↦
                 ap (λ (x : ℕ). within_limit a.limit (digits_from a.base x (drop (l.i + 1) a.w.now))) (sym w.value-is)
             | else-value-limit w ↦
                 let p : a.limit < l.value * a.base + r =
-                  omega (arith, w.if-value-limit.false, le-mul_of_pos_right l.value l.invariant.1.0) in
+                omega (arith, w.if-value-limit.false, le-mul_of_pos_right l.value l.invariant.1.0) in
                 past_limit_lem a.base a.limit l.invariant.1.0 (drop (l.i + 1) a.w.now) (l.value * a.base + r) c.if-value-limit.value p
                 (omega (arith, w.if-value-limit.false, w.value-is))
           ],

@@ -1,7 +1,7 @@
 -- `numerals::number::number_in` meets its contract. The loop's invariant: the value so far and the bytes left give the number.
 -- Assumes nothing.
 use Prim.Native.Nat.{◌-◌, ◌≤◌, ◌<◌}
-use mathlib.Core.Path.{◌≡◌, sym}
+use mathlib.Core.Path.{◌≡◌}
 use lib.ListN.{length, drop}
 use Rattle.model.specs.Details.{digits_from, within_limit, number_in}
 use Rattle.numerals.proofs.number.number_in.Given as goal
