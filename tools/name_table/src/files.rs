@@ -31,19 +31,19 @@ const TEMPLATES: [(&str, &str); 9] = [
         include_str!("../templates/InOrder.txt"),
     ),
     (
-        "crates/names/proofs/table/spelling_at/Proof.antt",
+        "crates/names/proofs/table/spelling_at/Answers.antt",
         include_str!("../templates/spelling_at.txt"),
     ),
     (
-        "crates/names/proofs/rows/type_numbers/Proof.antt",
+        "crates/names/proofs/rows/type_numbers/Answers.antt",
         include_str!("../templates/type_numbers.txt"),
     ),
     (
-        "crates/names/proofs/rows/modifier_line/Proof.antt",
+        "crates/names/proofs/rows/modifier_line/Answers.antt",
         include_str!("../templates/modifier_line.txt"),
     ),
     (
-        "crates/names/proofs/rows/type_line/Proof.antt",
+        "crates/names/proofs/rows/type_line/Answers.antt",
         include_str!("../templates/type_line.txt"),
     ),
     (
@@ -136,20 +136,30 @@ fn add_rows(values: &mut Values, table: &Table) {
 fn add_proofs(values: &mut Values, table: &Table) {
     let [.., names] = table.starts;
     let types = table.lists.types.len();
+    let spelling = Answers {
+        template: include_str!("../templates/spelling_answer.txt"),
+        fact: "spelling_at",
+    };
+    let numbers = Answers {
+        template: include_str!("../templates/number_answer.txt"),
+        fact: "numbers_at",
+    };
+    let modifier_line = Answers {
+        template: include_str!("../templates/modifier_line_answer.txt"),
+        fact: "modifier_line",
+    };
+    let type_line = Answers {
+        template: include_str!("../templates/type_line_answer.txt"),
+        fact: "type_line",
+    };
     values.extend([
+        ("spelling_answers", spelling.of_places("place", names)),
+        ("number_answers", numbers.of_places("i", types)),
         (
-            "spelling_needs",
-            needs_of_places("spelling-at", "place", names),
+            "modifier_line_answers",
+            modifier_line.of_line(&table.modifiers.index()),
         ),
-        ("number_needs", needs_of_places("numbers-at", "i", types)),
-        (
-            "modifier_line_needs",
-            needs_of_line("modifierLine", &table.modifiers.index()),
-        ),
-        (
-            "type_line_needs",
-            needs_of_line("typeLine", &table.types.index()),
-        ),
+        ("type_line_answers", type_line.of_line(&table.types.index())),
     ]);
 }
 
@@ -289,25 +299,53 @@ fn wrapped(words: impl Iterator<Item = String>) -> String {
     text
 }
 
-/// The answers for a `match` over the numbers below a count: a fact for each arm, and for the last
-/// arm that no number is left for it.
-fn needs_of_places(fact: &str, argument: &str, count: usize) -> String {
-    let arms = (1..=count).map(|arm| format!("    (λ c. {fact} (c .match .keys{arm}))"));
-    let left = format!("past {count} (c .before .args .{argument}) (c .match .rest)");
-    lines(arms.chain([format!("    (λ c. absurd (omega (arith, {left})))")]))
+/// The answers for the arms of a `match`.
+struct Answers {
+    /// One answer: the goal of an arm, and the definitions that it computes.
+    template: &'static str,
+    /// What is cited in each arm but the last.
+    fact: &'static str,
 }
 
-/// The answers for a `match` over the first bytes. In the last arm the byte is none of them; what
-/// it is not is a chain of pairs, the last of them outermost.
-fn needs_of_line(line: &str, index: &Index) -> String {
-    let count = index.lines.len();
-    let arms = (1..=count).map(|arm| format!("    (λ c. ap {line} (sym (c .match .keys{arm})))"));
-    let others = (0..count).rev().map(|depth| {
-        let path = " .0".repeat(depth);
-        format!("      ne-eqb _ _ (c .match .rest{path} .1),")
-    });
-    format!("{}\n    (λ c. rw (\n{}\n    ))", lines(arms), lines(others))
+impl Answers {
+    /// For a `match` over the numbers below a count: in the last arm no number is left.
+    fn of_places(&self, argument: &str, count: usize) -> String {
+        let fact = self.fact;
+        let arms = (0..count).map(|place| self.filled(place, format!("{fact} c.in-{place}.is")));
+        let left = format!("past {count} c.args.{argument} {REST}");
+        let last = self.filled_last(format!("absurd (omega (arith, {left}))"));
+        lines(arms.chain([last]))
+    }
+
+    /// For a `match` over the first bytes. In the last arm the byte is none of them; what it is not
+    /// is a chain of pairs, the last of them outermost.
+    fn of_line(&self, index: &Index) -> String {
+        let fact = self.fact;
+        let firsts = index.lines.iter().map(|(first, _)| *first);
+        let arms =
+            firsts.map(|first| self.filled(first, format!("ap {fact} (sym c.in-{first}.is)")));
+        let others = (0..index.lines.len()).rev().map(|depth| {
+            let path = ".0".repeat(depth);
+            format!("  ne_eqb _ _ {REST}{path}.1,")
+        });
+        let last = self.filled_last(format!("rw (\n{}\n)", lines(others)));
+        lines(arms.chain([last]))
+    }
+
+    /// The arm of a number, with an empty line after it.
+    fn filled(&self, number: impl std::fmt::Display, answer: String) -> String {
+        let values = Values::from([("arm", format!("-{number}")), ("answer", answer)]);
+        filled(self.template, &values)
+    }
+
+    fn filled_last(&self, answer: String) -> String {
+        let values = Values::from([("arm", "_default".to_string()), ("answer", answer)]);
+        filled(self.template, &values).trim_end().to_string()
+    }
 }
+
+/// That the value is none of those before the last arm.
+const REST: &str = "c.in_default.in_default-own.rest";
 
 #[cfg(test)]
 mod tests {
@@ -384,12 +422,36 @@ mod tests {
         );
     }
 
+    const ANSWERS: Answers = Answers {
+        template: "returns-in%arm% c = %answer%\n",
+        fact: "at",
+    };
+
     #[test]
-    fn answers_of_a_match() {
+    fn answers_of_places() {
         assert_eq!(
-            needs_of_places("at", "i", 1),
-            "    (λ c. at (c .match .keys1))\n    \
-             (λ c. absurd (omega (arith, past 1 (c .before .args .i) (c .match .rest))))"
+            ANSWERS.of_places("i", 2),
+            "returns-in-0 c = at c.in-0.is\n\n\
+             returns-in-1 c = at c.in-1.is\n\n\
+             returns-in_default c = \
+             absurd (omega (arith, past 2 c.args.i c.in_default.in_default-own.rest))"
+        );
+    }
+
+    #[test]
+    fn answers_of_a_line() {
+        let index = Index {
+            shortest: 1,
+            longest: 1,
+            lines: vec![(b'A', vec![0, 2]), (b'B', vec![2, 3])],
+        };
+        assert_eq!(
+            ANSWERS.of_line(&index),
+            "returns-in-65 c = ap at (sym c.in-65.is)\n\n\
+             returns-in-66 c = ap at (sym c.in-66.is)\n\n\
+             returns-in_default c = rw (\n  \
+             ne_eqb _ _ c.in_default.in_default-own.rest.0.1,\n  \
+             ne_eqb _ _ c.in_default.in_default-own.rest.1,\n)"
         );
     }
 }

@@ -22,9 +22,9 @@ impl Latin1 {
     }
 
     fn of(source: &Source) -> Result<Latin1, String> {
-        let entries = lists::kind(source, "latin1Entries", named_keysym)?;
+        let entries = lists::kind(source, "latin1_entries", named_keysym)?;
         in_byte_order(source, &entries)?;
-        let (start, _) = source.definition("latin1Entries")?;
+        let (start, _) = source.definition("latin1_entries")?;
         let first = |keysym: u8| {
             let place = entries.iter().position(|entry| entry.meaning == keysym);
             place.ok_or_else(|| source.refusal(start, format!("{keysym:#x} has no name")))
@@ -80,7 +80,7 @@ pub mod tests {
 
     fn list(entries: &[String]) -> Source {
         Source::of(&format!(
-            "latin1Entries =\n    {}\n    ∷ []\n",
+            "latin1_entries =\n    {}\n    ∷ []\n",
             entries.join("\n    ∷ ")
         ))
     }

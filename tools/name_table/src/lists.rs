@@ -17,12 +17,12 @@ pub const CODES: RangeInclusive<u8> = 2..=34;
 /// The buttons that an event type may fix. The rows have 0 where it fixes none.
 const FIXED_DETAILS: RangeInclusive<u8> = 1..=255;
 
-const TYPE_NAMES: &str = "protocolEntries ++ (synonymEntries ++ abbreviationEntries)";
+const TYPE_NAMES: &str = "protocol_entries ++ (synonym_entries ++ abbreviation_entries)";
 
 /// What stands before modifiers and event types in the table.
-const OTHER_NAMES: &str = "namesIn keysymEntries ++ (namesIn buttonEntries \
-    ++ (namesIn motionEntries ++ (namesIn modeEntries ++ (namesIn requestEntries \
-    ++ (namesIn directiveEntries ++ (bytes \"None\" ∷ bytes \"Any\" ∷ []))))))";
+const OTHER_NAMES: &str = "names_in keysym_entries ++ (names_in button_entries \
+    ++ (names_in motion_entries ++ (names_in mode_entries ++ (names_in request_entries \
+    ++ (names_in directive_entries ++ (bytes \"None\" ∷ bytes \"Any\" ∷ []))))))";
 
 pub struct Entry<T> {
     pub name: String,
@@ -72,24 +72,24 @@ impl Lists {
     }
 
     pub fn of(names: &Source, details: &Source, table: &Source) -> Result<Lists, String> {
-        names.expect("typeEntries", TYPE_NAMES)?;
-        table.expect("otherNames", OTHER_NAMES)?;
-        let mut types = entries(names, "protocolEntries", event_type)?;
+        names.expect("type_entries", TYPE_NAMES)?;
+        table.expect("other_names", OTHER_NAMES)?;
+        let mut types = entries(names, "protocol_entries", event_type)?;
         let protocol = types.len();
-        types.extend(entries(names, "synonymEntries", event_type)?);
-        types.extend(entries(names, "abbreviationEntries", event_type)?);
+        types.extend(entries(names, "synonym_entries", event_type)?);
+        types.extend(entries(names, "abbreviation_entries", event_type)?);
         Ok(Lists {
-            modifiers: kind(names, "modifierEntries", modifier)?,
+            modifiers: kind(names, "modifier_entries", modifier)?,
             types: distinct(names, types)?,
             protocol,
             details: [
-                kind(details, "keysymEntries", value)?,
-                kind(details, "buttonEntries", value)?,
-                kind(details, "motionEntries", value)?,
-                kind(details, "modeEntries", value)?,
-                kind(details, "requestEntries", value)?,
+                kind(details, "keysym_entries", value)?,
+                kind(details, "button_entries", value)?,
+                kind(details, "motion_entries", value)?,
+                kind(details, "mode_entries", value)?,
+                kind(details, "request_entries", value)?,
             ],
-            directives: kind(table, "directiveEntries", directive)?,
+            directives: kind(table, "directive_entries", directive)?,
         })
     }
 }
@@ -163,7 +163,7 @@ fn modifier<'a>(item: &Item<'a>) -> Result<(&'a str, Modifier), String> {
 fn event_type<'a>(item: &Item<'a>) -> Result<(&'a str, EventType), String> {
     let (name, code, added, fixed) = match item.tokens[..] {
         [Word("plain"), Text(name), Word(code)] => (name, code, Added::Nothing, None),
-        [Word("eventType"), Text(name), Word(code), ref rest @ ..] => {
+        [Word("event_type"), Text(name), Word(code), ref rest @ ..] => {
             let (added, rest) = added(item, rest)?;
             (name, code, added, fixed(item, rest)?)
         }
@@ -258,10 +258,10 @@ mod tests {
     #[test]
     fn types_read() {
         let list =
-            "plain \"Key\" 2 ∷ eventType \"Btn1Down\" 4 Added.Nothing (Detail.Value 1)\n    \
-            ∷ eventType \"Ctrl\" 2 (Added.Modifier 2) Detail.Unspecified\n    \
-            ∷ eventType \"BtnMotion\" 6 Added.AnyButton Detail.Unspecified\n    \
-            ∷ eventType \"Meta\" 2 Added.Meta Detail.Unspecified";
+            "plain \"Key\" 2 ∷ event_type \"Btn1Down\" 4 Added.Nothing (Detail.Value 1)\n    \
+            ∷ event_type \"Ctrl\" 2 (Added.Modifier 2) Detail.Unspecified\n    \
+            ∷ event_type \"BtnMotion\" 6 Added.AnyButton Detail.Unspecified\n    \
+            ∷ event_type \"Meta\" 2 Added.Meta Detail.Unspecified";
         let of = |code, added, fixed| EventType { code, added, fixed };
         let expected = [
             ("Key", of(2, Added::Nothing, None)),
@@ -299,10 +299,10 @@ mod tests {
             "",
             "plain \"Key\"",
             "plain \"Key\" 2 plain \"KeyUp\" 3",
-            "eventType \"Key\" 2",
-            "eventType \"Key\" 2 Added.Nothing",
-            "eventType \"Key\" 2 Added.Meta (Detail.Value 1) 1",
-            "eventType \"Key\" 2 Added.Modifier 2 Detail.Unspecified",
+            "event_type \"Key\" 2",
+            "event_type \"Key\" 2 Added.Nothing",
+            "event_type \"Key\" 2 Added.Meta (Detail.Value 1) 1",
+            "event_type \"Key\" 2 Added.Modifier 2 Detail.Unspecified",
         ] {
             assert!(refused(list, event_type).ends_with(&what[12..]), "{list}");
         }
@@ -326,7 +326,7 @@ mod tests {
         assert_eq!(refused(long, modifier), "Test.antt:3: 4 is not in 0..3");
         let code = "plain \"x\" 35";
         assert_eq!(refused(code, event_type), "Test.antt:3: 35 is not in 2..34");
-        let none = "eventType \"x\" 4 Added.Nothing (Detail.Value 0)";
+        let none = "event_type \"x\" 4 Added.Nothing (Detail.Value 0)";
         assert_eq!(refused(none, event_type), "Test.antt:3: 0 is not in 1..255");
         let unknown = "plain \"x\" eight";
         assert!(refused(unknown, event_type).starts_with("Test.antt:3: `eight` is no number"));

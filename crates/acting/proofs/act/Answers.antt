@@ -1,9 +1,6 @@
 -- `acting::act` meets its contract.
-use mathlib.Core.Path.{◌≡◌, sym, ap, ◌∙◌}
-use mathlib.Core.Bool.{false}
-use Rattle.model.specs.Compiling.{passes_limit}
+use mathlib.Core.Path.{sym, ap, ◌∙◌}
 use Rattle.model.specs.Numbers.{record_number}
-use Rattle.model.specs.Setting.{Setting}
 use Rattle.model.specs.Demand.{MatchCall}
 use Rattle.records.proofs.Ranges.{read_ranges}
 use Rattle.tables.specs.Reading.{decode}

@@ -1,5 +1,4 @@
 -- `filter::reach_alone` meets its contract.
-use Prim.Native.Nat.{◌-◌}
 use native.Mathlib.Omega.{arith}
 use mathlib.Core.Path.{◌≡◌}
 use Rattle.tables.specs.Reading.{event_total}

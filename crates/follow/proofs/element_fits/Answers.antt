@@ -33,7 +33,7 @@ unfolding element_of
 returns-then-element_code-x c =
     let a = c.args in
     let code : c.element_code.result ≡ (element_of (event_entry a.table.now a.i) a.k).code =
-        c.element_code.ensures ∙ rw (c.code_at-code.ensures, c.count_at-count.ensures) in
+    c.element_code.ensures ∙ rw (c.code_at-code.ensures, c.count_at-count.ensures) in
     sym (fits_other (lent_setting a.maps.now a.limit) a.before (event_entry a.table.now a.i) a.k a.x (λ h. c.if-element_code-x.true (code ∙ h)))
 
 pub returns-then-not-event_meets : goal.returns-then-not-event_meets
@@ -41,7 +41,7 @@ unfolding element_of
 returns-then-not-event_meets c =
     let a = c.args in
     let code : c.element_code.result ≡ (element_of (event_entry a.table.now a.i) a.k).code =
-        c.element_code.ensures ∙ rw (c.code_at-code.ensures, c.count_at-count.ensures) in
+    c.element_code.ensures ∙ rw (c.code_at-code.ensures, c.count_at-count.ensures) in
     sym (fits_not (lent_setting a.maps.now a.limit) a.before (event_entry a.table.now a.i) a.k a.x
     (sym code ∙ c.if-element_code-x.false) (sym (c.event_meets.ensures a.limit) ∙ c.if-not-event_meets.true))
 
@@ -57,9 +57,9 @@ unfolding element_of
 returns-then-not-is_timed c =
     let a = c.args in
     let code : c.element_code.result ≡ (element_of (event_entry a.table.now a.i) a.k).code =
-        c.element_code.ensures ∙ rw (c.code_at-code.ensures, c.count_at-count.ensures) in
+    c.element_code.ensures ∙ rw (c.code_at-code.ensures, c.count_at-count.ensures) in
     let timed : c.is_timed.result ≡ (element_of (event_entry a.table.now a.i) a.k).timed =
-        c.is_timed.ensures ∙ rw (c.code_at-code.ensures, c.count_at-count.ensures) in
+    c.is_timed.ensures ∙ rw (c.code_at-code.ensures, c.count_at-count.ensures) in
     sym (fits_untimed (lent_setting a.maps.now a.limit) a.before (event_entry a.table.now a.i) a.k a.x
     (sym code ∙ c.if-element_code-x.false) (sym (c.event_meets.ensures a.limit) ∙ c.if-not-event_meets.false)
     (sym timed ∙ c.if-not-is_timed.true))
@@ -69,9 +69,9 @@ unfolding element_of
 returns c =
     let a = c.args in
     let code : c.element_code.result ≡ (element_of (event_entry a.table.now a.i) a.k).code =
-        c.element_code.ensures ∙ rw (c.code_at-code.ensures, c.count_at-count.ensures) in
+    c.element_code.ensures ∙ rw (c.code_at-code.ensures, c.count_at-count.ensures) in
     let timed : c.is_timed.result ≡ (element_of (event_entry a.table.now a.i) a.k).timed =
-        c.is_timed.ensures ∙ rw (c.code_at-code.ensures, c.count_at-count.ensures) in
+    c.is_timed.ensures ∙ rw (c.code_at-code.ensures, c.count_at-count.ensures) in
     c.quick.ensures
     ∙ sym (fits_timed (lent_setting a.maps.now a.limit) a.before (event_entry a.table.now a.i) a.k a.x
     (sym code ∙ c.if-element_code-x.false) (sym (c.event_meets.ensures a.limit) ∙ c.if-not-event_meets.false)

@@ -1,5 +1,5 @@
 -- `follow::follow` meets its contract.
-use Prim.Native.Nat.{◌-◌, ◌<◌}
+use Prim.Native.Nat.{◌<◌}
 use native.Mathlib.Omega.{arith}
 use mathlib.Core.Path.{◌≡◌, sym, ap₂, ◌∙◌}
 use lib.ListN.{length, get_or}
@@ -45,8 +45,8 @@ element_fits-requires c =
     let p = c.requires in
     let v = c.loop-j in
     let read : c.event_at-x.result ≡ get_or (slots_of a.events.now) v.j zero_event =
-        let m : v.j < 25 = omega (arith, c.requires.0.room, c.loop-j-test.true) in
-        c.event_at-x.ensures ∙ in_slot a.events.now v.j m in
+    let m : v.j < 25 = omega (arith, c.requires.0.room, c.loop-j-test.true) in
+    c.event_at-x.ensures ∙ in_slot a.events.now v.j m in
     let h : v.i < event_total c.args.table.now = omega (arith, p.2) in
     ((p.0.is_whole, h), (p.0.mapped, rw read (p.0.ranges v.j c.loop-j-test.true)))
 
@@ -55,15 +55,15 @@ returns-then-not-element_fits c =
     let a = c.args in
     let v = c.loop-j in
     let read : c.event_at-x.result ≡ get_or (slots_of a.events.now) v.j zero_event =
-        let m : v.j < 25 = omega (arith, c.requires.0.room, c.loop-j-test.true) in
-        c.event_at-x.ensures ∙ in_slot a.events.now v.j m in
+    let m : v.j < 25 = omega (arith, c.requires.0.room, c.loop-j-test.true) in
+    c.event_at-x.ensures ∙ in_slot a.events.now v.j m in
     let fit : c.element_fits.result
-        ≡ fits_after (lent_setting a.maps.now a.limit) (get_or (slots_of a.events.now) c.two_before-at.result zero_event).time
-            (element_of (event_entry a.table.now v.i) v.k) (get_or (slots_of a.events.now) v.j zero_event) =
-        let m : c.two_before-at.result < 25 = omega (arith, c.requires.0.room, c.loop-j-test.true, c.two_before-at.ensures.0) in
-        c.element_fits.ensures
-        ∙ ap₂ (λ (b x : Event). fits_after (lent_setting a.maps.now a.limit) b.time (element_of (event_entry a.table.now v.i) v.k) x)
-            (c.event_at-b.ensures ∙ in_slot a.events.now c.two_before-at.result m) read in
+    ≡ fits_after (lent_setting a.maps.now a.limit) (get_or (slots_of a.events.now) c.two_before-at.result zero_event).time
+    (element_of (event_entry a.table.now v.i) v.k) (get_or (slots_of a.events.now) v.j zero_event) =
+    let m : c.two_before-at.result < 25 = omega (arith, c.requires.0.room, c.loop-j-test.true, c.two_before-at.ensures.0) in
+    c.element_fits.ensures
+    ∙ ap₂ (λ (b x : Event). fits_after (lent_setting a.maps.now a.limit) b.time (element_of (event_entry a.table.now v.i) v.k) x)
+    (c.event_at-b.ensures ∙ in_slot a.events.now c.two_before-at.result m) read in
     sym (walks_no (lent_setting a.maps.now a.limit) a.table.now a.first a.n (slots_of a.events.now) a.from a.to c.requires.0.room v.i v.k v.j v.invariant c.if-last-i.false c.loop-j-test.true c.two_before-at.result c.two_before-at.ensures.1 c.element_fits.result fit (c.if-not-element_fits.true))
 
 pub overflow_add-j : goal.overflow_add-j
@@ -93,15 +93,15 @@ loop-j-preserved-then-k-size_at c =
     let a = c.args in
     let v = c.loop-j in
     let read : c.event_at-x.result ≡ get_or (slots_of a.events.now) v.j zero_event =
-        let m : v.j < 25 = omega (arith, c.requires.0.room, c.loop-j-test.true) in
-        c.event_at-x.ensures ∙ in_slot a.events.now v.j m in
+    let m : v.j < 25 = omega (arith, c.requires.0.room, c.loop-j-test.true) in
+    c.event_at-x.ensures ∙ in_slot a.events.now v.j m in
     let fit : c.element_fits.result
-        ≡ fits_after (lent_setting a.maps.now a.limit) (get_or (slots_of a.events.now) c.two_before-at.result zero_event).time
-            (element_of (event_entry a.table.now v.i) v.k) (get_or (slots_of a.events.now) v.j zero_event) =
-        let m : c.two_before-at.result < 25 = omega (arith, c.requires.0.room, c.loop-j-test.true, c.two_before-at.ensures.0) in
-        c.element_fits.ensures
-        ∙ ap₂ (λ (b x : Event). fits_after (lent_setting a.maps.now a.limit) b.time (element_of (event_entry a.table.now v.i) v.k) x)
-            (c.event_at-b.ensures ∙ in_slot a.events.now c.two_before-at.result m) read in
+    ≡ fits_after (lent_setting a.maps.now a.limit) (get_or (slots_of a.events.now) c.two_before-at.result zero_event).time
+    (element_of (event_entry a.table.now v.i) v.k) (get_or (slots_of a.events.now) v.j zero_event) =
+    let m : c.two_before-at.result < 25 = omega (arith, c.requires.0.room, c.loop-j-test.true, c.two_before-at.ensures.0) in
+    c.element_fits.ensures
+    ∙ ap₂ (λ (b x : Event). fits_after (lent_setting a.maps.now a.limit) b.time (element_of (event_entry a.table.now v.i) v.k) x)
+    (c.event_at-b.ensures ∙ in_slot a.events.now c.two_before-at.result m) read in
     walks_turn (lent_setting a.maps.now a.limit) a.table.now a.first a.n (slots_of a.events.now) a.from a.to c.requires.0.room v.i v.k v.j v.invariant c.if-last-i.false c.loop-j-test.true c.two_before-at.result c.two_before-at.ensures.1 c.element_fits.result fit (c.if-not-element_fits.false) (c.if-k-size_at.true ∙ c.size_at.ensures)
 
 pub loop-j-smaller : goal.loop-j-smaller
@@ -112,15 +112,15 @@ loop-j-preserved c =
     let a = c.args in
     let v = c.loop-j in
     let read : c.event_at-x.result ≡ get_or (slots_of a.events.now) v.j zero_event =
-        let m : v.j < 25 = omega (arith, c.requires.0.room, c.loop-j-test.true) in
-        c.event_at-x.ensures ∙ in_slot a.events.now v.j m in
+    let m : v.j < 25 = omega (arith, c.requires.0.room, c.loop-j-test.true) in
+    c.event_at-x.ensures ∙ in_slot a.events.now v.j m in
     let fit : c.element_fits.result
-        ≡ fits_after (lent_setting a.maps.now a.limit) (get_or (slots_of a.events.now) c.two_before-at.result zero_event).time
-            (element_of (event_entry a.table.now v.i) v.k) (get_or (slots_of a.events.now) v.j zero_event) =
-        let m : c.two_before-at.result < 25 = omega (arith, c.requires.0.room, c.loop-j-test.true, c.two_before-at.ensures.0) in
-        c.element_fits.ensures
-        ∙ ap₂ (λ (b x : Event). fits_after (lent_setting a.maps.now a.limit) b.time (element_of (event_entry a.table.now v.i) v.k) x)
-            (c.event_at-b.ensures ∙ in_slot a.events.now c.two_before-at.result m) read in
+    ≡ fits_after (lent_setting a.maps.now a.limit) (get_or (slots_of a.events.now) c.two_before-at.result zero_event).time
+    (element_of (event_entry a.table.now v.i) v.k) (get_or (slots_of a.events.now) v.j zero_event) =
+    let m : c.two_before-at.result < 25 = omega (arith, c.requires.0.room, c.loop-j-test.true, c.two_before-at.ensures.0) in
+    c.element_fits.ensures
+    ∙ ap₂ (λ (b x : Event). fits_after (lent_setting a.maps.now a.limit) b.time (element_of (event_entry a.table.now v.i) v.k) x)
+    (c.event_at-b.ensures ∙ in_slot a.events.now c.two_before-at.result m) read in
     walks_on (lent_setting a.maps.now a.limit) a.table.now a.first a.n (slots_of a.events.now) a.from a.to c.requires.0.room v.i v.k v.j v.invariant c.if-last-i.false c.loop-j-test.true c.two_before-at.result c.two_before-at.ensures.1 c.element_fits.result fit (c.if-not-element_fits.false) (λ z. c.if-k-size_at.false (z ∙ sym c.size_at.ensures))
 
 pub returns-then-i-last : goal.returns-then-i-last

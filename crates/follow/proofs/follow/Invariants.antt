@@ -1,6 +1,5 @@
 -- `follow::follow` meets its contract.
 use Prim.Native.Nat.{◌-◌}
-use mathlib.Core.Path.{sym}
 use Rattle.keyboard.specs.Maps.{lent_setting}
 use Rattle.states.specs.State.{slots_of}
 use Rattle.follow.proofs.FollowLaws.{Walks}

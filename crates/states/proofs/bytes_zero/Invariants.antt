@@ -1,6 +1,6 @@
 -- `states::bytes_zero` meets its contract.
 use Prim.Native.Nat.{◌≤◌, ◌-◌}
-use mathlib.Core.Path.{◌≡◌, refl}
+use mathlib.Core.Path.{◌≡◌}
 use Rattle.words.specs.Runs.{every}
 use Rattle.states.specs.State.{byte_zero}
 use Rattle.states.proofs.bytes_zero.Given as goal

@@ -1,11 +1,10 @@
 -- `states::state_whole` meets its contract.
-use Prim.Native.Nat.{◌≤◌}
 use native.Mathlib.Omega.{arith}
 use mathlib.Core.Path.{◌≡◌, sym, ap₂, ◌∙◌}
 use mathlib.Core.Bool.{true, false, ◌&&◌}
-use lib.ListN.{length, length-map}
+use lib.ListN.{length}
 use borrow.Author.Rules.{rules}
-use borrow.Author.Tests.{not-false, eq-eqb}
+use borrow.Author.Tests.{eq-eqb}
 use Rattle.states.specs.State.{marks_whole, whole_state}
 use Rattle.states.proofs.StateLaws.{marks_not, marks_few}
 use Rattle.states.proofs.state_whole.Goals as goal

@@ -1,6 +1,6 @@
 -- `states::used_whole` meets its contract.
 use Prim.Native.Nat.{◌≤◌, ◌-◌}
-use mathlib.Core.Path.{◌≡◌, refl}
+use mathlib.Core.Path.{◌≡◌}
 use Rattle.words.specs.Runs.{every}
 use Rattle.states.specs.State.{used_whole}
 use Rattle.states.proofs.used_whole.Given as goal

@@ -1,5 +1,4 @@
 -- `walk::first_start` meets its contract.
-use Prim.Native.Nat.{◌-◌}
 use native.Mathlib.Omega.{arith}
 use mathlib.Core.Path.{◌≡◌, refl, sym, ap, ◌∙◌}
 use Rattle.tables.specs.Reading.{decode}

@@ -1,6 +1,6 @@
 -- `walk::first_start` meets its contract.
 use Prim.Native.Nat.{◌-◌, ◌≤◌}
-use mathlib.Core.Path.{◌≡◌, refl, sym}
+use mathlib.Core.Path.{◌≡◌}
 use lib.ListN.{take, drop}
 use Rattle.model.specs.Matching.{reading_of}
 use Rattle.machine.specs.Kept.{longest_end}

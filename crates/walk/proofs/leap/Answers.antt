@@ -1,5 +1,5 @@
 -- `walk::leap` meets its contract.
-use Prim.Native.Nat.{◌+◌, ◌-◌, ◌≤◌}
+use Prim.Native.Nat.{◌+◌, ◌≤◌}
 use native.Mathlib.Omega.{arith}
 use Rattle.tables.specs.Reading.{production_total}
 use Rattle.fields.proofs.TableFacts.{table_facts}

@@ -48,8 +48,8 @@ pub sought_of-two-requires : goal.sought_of-two-requires
 sought_of-two-requires c =
     let next : c.args.from + 1 < c.args.to = let d : c.args.from + 1 ≡ c.args.to → ⊥ = c.if-from-to.false in omega (arith, c.requires.1) in
     let next_is : c.event_at.result ≡ get_or (slots_of c.args.events.now) (c.args.from + 1) zero_event =
-        let m : c.args.from + 1 < 25 = omega (arith, c.requires.0.room, next) in
-        c.event_at.ensures ∙ in_slot c.args.events.now (c.args.from + 1) m in
+    let m : c.args.from + 1 < 25 = omega (arith, c.requires.0.room, next) in
+    c.event_at.ensures ∙ in_slot c.args.events.now (c.args.from + 1) m in
     (c.requires.0.mapped.mapped, rw next_is (c.requires.0.ranges (c.args.from + 1) next))
 
 pub reach_paired-requires : goal.reach_paired-requires
@@ -59,10 +59,10 @@ pub returns : goal.returns
 returns c =
     let next : c.args.from + 1 < c.args.to = let d : c.args.from + 1 ≡ c.args.to → ⊥ = c.if-from-to.false in omega (arith, c.requires.1) in
     let next_is : c.event_at.result ≡ get_or (slots_of c.args.events.now) (c.args.from + 1) zero_event =
-        let m : c.args.from + 1 < 25 = omega (arith, c.requires.0.room, next) in
-        c.event_at.ensures ∙ in_slot c.args.events.now (c.args.from + 1) m in
+    let m : c.args.from + 1 < 25 = omega (arith, c.requires.0.room, next) in
+    c.event_at.ensures ∙ in_slot c.args.events.now (c.args.from + 1) m in
     let second : c.sought_of-two.result ≡ sought_of (map_numbers c.args.maps.now) (get_or (slots_of c.args.events.now) (c.args.from + 1) zero_event) =
-        c.sought_of-two.ensures ∙ ap (sought_of (map_numbers c.args.maps.now)) next_is in
+    c.sought_of-two.ensures ∙ ap (sought_of (map_numbers c.args.maps.now)) next_is in
     let a = c.args in
     let p = c.requires in
     let l = a.table.now in

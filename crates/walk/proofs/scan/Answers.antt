@@ -1,14 +1,12 @@
 -- `walk::scan` meets its contract.
-use Prim.Native.Nat.{◌-◌, ◌≤◌, ◌<◌}
+use Prim.Native.Nat.{◌≤◌, ◌<◌}
 use native.Mathlib.Omega.{arith}
 use mathlib.Core.Path.{◌≡◌, refl, sym, ap, ◌∙◌}
 use mathlib.Core.Option.{none}
-use mathlib.Core.List.{List}
 use lib.ListN.{take, drop}
 use Rattle.words.specs.Runs.{run}
 use Rattle.keyboard.specs.Maps.{lent_setting}
 use Rattle.model.specs.Counts.{expanded}
-use Rattle.model.specs.declared.events.Event.{Event}
 use Rattle.tables.specs.Reading.{production_total, event_entry}
 use Rattle.follow.specs.declared.Followed.{Followed}
 use Rattle.states.specs.State.{slots_of}
@@ -52,8 +50,8 @@ pub seems_one-requires : goal.seems_one-requires
 seems_one-requires c =
     let l = c.args.table.now in
     let g : Place l c.loop-p.at c.loop-p.p c.production_events-size.result =
-        place_of l (table_facts l c.requires.0.is_whole) c.loop-p.at c.loop-p.p c.production_events-size.result c.production_count-n.result
-        c.production_count-n.ensures c.loop-p-test.true c.loop-p.invariant.place c.production_events-size.ensures in
+    place_of l (table_facts l c.requires.0.is_whole) c.loop-p.at c.loop-p.p c.production_events-size.result c.production_count-n.result
+    c.production_count-n.ensures c.loop-p-test.true c.loop-p.invariant.place c.production_events-size.ensures in
     let p = c.requires in
     ((table_facts _ p.0.is_whole).long, omega (arith, g.small))
 
@@ -61,8 +59,8 @@ pub follow-requires : goal.follow-requires
 follow-requires c =
     let l = c.args.table.now in
     let g : Place l c.loop-p.at c.loop-p.p c.production_events-size.result =
-        place_of l (table_facts l c.requires.0.is_whole) c.loop-p.at c.loop-p.p c.production_events-size.result c.production_count-n.result
-        c.production_count-n.ensures c.loop-p-test.true c.loop-p.invariant.place c.production_events-size.ensures in
+    place_of l (table_facts l c.requires.0.is_whole) c.loop-p.at c.loop-p.p c.production_events-size.result c.production_count-n.result
+    c.production_count-n.ensures c.loop-p-test.true c.loop-p.invariant.place c.production_events-size.ensures in
     let p = c.requires in
     let m = p.1 in
     let b : c.args.from ≤ c.args.to = omega arith in
@@ -72,8 +70,8 @@ pub returns-in-Whole : goal.returns-in-Whole
 returns-in-Whole c =
     let l = c.args.table.now in
     let g : Place l c.loop-p.at c.loop-p.p c.production_events-size.result =
-        place_of l (table_facts l c.requires.0.is_whole) c.loop-p.at c.loop-p.p c.production_events-size.result c.production_count-n.result
-        c.production_count-n.ensures c.loop-p-test.true c.loop-p.invariant.place c.production_events-size.ensures in
+    place_of l (table_facts l c.requires.0.is_whole) c.loop-p.at c.loop-p.p c.production_events-size.result c.production_count-n.result
+    c.production_count-n.ensures c.loop-p-test.true c.loop-p.invariant.place c.production_events-size.ensures in
     let stretch = drop c.args.from (take c.args.to (slots_of c.args.events.now)) in
     let a = c.args in
     let v = c.loop-p in
@@ -84,16 +82,16 @@ pub overflow_add-at : goal.overflow_add-at
 overflow_add-at c =
     let l = c.args.table.now in
     let g : Place l c.loop-p.at c.loop-p.p c.production_events-size.result =
-        place_of l (table_facts l c.requires.0.is_whole) c.loop-p.at c.loop-p.p c.production_events-size.result c.production_count-n.result
-        c.production_count-n.ensures c.loop-p-test.true c.loop-p.invariant.place c.production_events-size.ensures in
+    place_of l (table_facts l c.requires.0.is_whole) c.loop-p.at c.loop-p.p c.production_events-size.result c.production_count-n.result
+    c.production_count-n.ensures c.loop-p-test.true c.loop-p.invariant.place c.production_events-size.ensures in
     omega (arith, g.small)
 
 pub overflow_add-p : goal.overflow_add-p
 overflow_add-p c =
     let l = c.args.table.now in
     let g : Place l c.loop-p.at c.loop-p.p c.production_events-size.result =
-        place_of l (table_facts l c.requires.0.is_whole) c.loop-p.at c.loop-p.p c.production_events-size.result c.production_count-n.result
-        c.production_count-n.ensures c.loop-p-test.true c.loop-p.invariant.place c.production_events-size.ensures in
+    place_of l (table_facts l c.requires.0.is_whole) c.loop-p.at c.loop-p.p c.production_events-size.result c.production_count-n.result
+    c.production_count-n.ensures c.loop-p-test.true c.loop-p.invariant.place c.production_events-size.ensures in
     omega (arith, g.few)
 
 pub loop-p-smaller-in-Prefix : goal.loop-p-smaller-in-Prefix
@@ -103,8 +101,8 @@ pub loop-p-preserved-in-Prefix : goal.loop-p-preserved-in-Prefix
 loop-p-preserved-in-Prefix c =
     let l = c.args.table.now in
     let g : Place l c.loop-p.at c.loop-p.p c.production_events-size.result =
-        place_of l (table_facts l c.requires.0.is_whole) c.loop-p.at c.loop-p.p c.production_events-size.result c.production_count-n.result
-        c.production_count-n.ensures c.loop-p-test.true c.loop-p.invariant.place c.production_events-size.ensures in
+    place_of l (table_facts l c.requires.0.is_whole) c.loop-p.at c.loop-p.p c.production_events-size.result c.production_count-n.result
+    c.production_count-n.ensures c.loop-p-test.true c.loop-p.invariant.place c.production_events-size.ensures in
     let stretch = drop c.args.from (take c.args.to (slots_of c.args.events.now)) in
     let a = c.args in
     let v = c.loop-p in
@@ -115,16 +113,16 @@ pub overflow_add-at-in-No : goal.overflow_add-at-in-No
 overflow_add-at-in-No c =
     let l = c.args.table.now in
     let g : Place l c.loop-p.at c.loop-p.p c.production_events-size.result =
-        place_of l (table_facts l c.requires.0.is_whole) c.loop-p.at c.loop-p.p c.production_events-size.result c.production_count-n.result
-        c.production_count-n.ensures c.loop-p-test.true c.loop-p.invariant.place c.production_events-size.ensures in
+    place_of l (table_facts l c.requires.0.is_whole) c.loop-p.at c.loop-p.p c.production_events-size.result c.production_count-n.result
+    c.production_count-n.ensures c.loop-p-test.true c.loop-p.invariant.place c.production_events-size.ensures in
     omega (arith, g.small)
 
 pub overflow_add-p-in-No : goal.overflow_add-p-in-No
 overflow_add-p-in-No c =
     let l = c.args.table.now in
     let g : Place l c.loop-p.at c.loop-p.p c.production_events-size.result =
-        place_of l (table_facts l c.requires.0.is_whole) c.loop-p.at c.loop-p.p c.production_events-size.result c.production_count-n.result
-        c.production_count-n.ensures c.loop-p-test.true c.loop-p.invariant.place c.production_events-size.ensures in
+    place_of l (table_facts l c.requires.0.is_whole) c.loop-p.at c.loop-p.p c.production_events-size.result c.production_count-n.result
+    c.production_count-n.ensures c.loop-p-test.true c.loop-p.invariant.place c.production_events-size.ensures in
     omega (arith, g.few)
 
 pub loop-p-smaller-in-No : goal.loop-p-smaller-in-No
@@ -134,8 +132,8 @@ pub loop-p-preserved-in-No : goal.loop-p-preserved-in-No
 loop-p-preserved-in-No c =
     let l = c.args.table.now in
     let g : Place l c.loop-p.at c.loop-p.p c.production_events-size.result =
-        place_of l (table_facts l c.requires.0.is_whole) c.loop-p.at c.loop-p.p c.production_events-size.result c.production_count-n.result
-        c.production_count-n.ensures c.loop-p-test.true c.loop-p.invariant.place c.production_events-size.ensures in
+    place_of l (table_facts l c.requires.0.is_whole) c.loop-p.at c.loop-p.p c.production_events-size.result c.production_count-n.result
+    c.production_count-n.ensures c.loop-p-test.true c.loop-p.invariant.place c.production_events-size.ensures in
     let stretch = drop c.args.from (take c.args.to (slots_of c.args.events.now)) in
     let a = c.args in
     let v = c.loop-p in
@@ -146,16 +144,16 @@ pub overflow_add-at-else-seems_one : goal.overflow_add-at-else-seems_one
 overflow_add-at-else-seems_one c =
     let l = c.args.table.now in
     let g : Place l c.loop-p.at c.loop-p.p c.production_events-size.result =
-        place_of l (table_facts l c.requires.0.is_whole) c.loop-p.at c.loop-p.p c.production_events-size.result c.production_count-n.result
-        c.production_count-n.ensures c.loop-p-test.true c.loop-p.invariant.place c.production_events-size.ensures in
+    place_of l (table_facts l c.requires.0.is_whole) c.loop-p.at c.loop-p.p c.production_events-size.result c.production_count-n.result
+    c.production_count-n.ensures c.loop-p-test.true c.loop-p.invariant.place c.production_events-size.ensures in
     omega (arith, g.small)
 
 pub overflow_add-p-else-seems_one : goal.overflow_add-p-else-seems_one
 overflow_add-p-else-seems_one c =
     let l = c.args.table.now in
     let g : Place l c.loop-p.at c.loop-p.p c.production_events-size.result =
-        place_of l (table_facts l c.requires.0.is_whole) c.loop-p.at c.loop-p.p c.production_events-size.result c.production_count-n.result
-        c.production_count-n.ensures c.loop-p-test.true c.loop-p.invariant.place c.production_events-size.ensures in
+    place_of l (table_facts l c.requires.0.is_whole) c.loop-p.at c.loop-p.p c.production_events-size.result c.production_count-n.result
+    c.production_count-n.ensures c.loop-p-test.true c.loop-p.invariant.place c.production_events-size.ensures in
     omega (arith, g.few)
 
 pub loop-p-smaller : goal.loop-p-smaller
@@ -165,16 +163,16 @@ pub loop-p-preserved : goal.loop-p-preserved
 loop-p-preserved c =
     let l = c.args.table.now in
     let g : Place l c.loop-p.at c.loop-p.p c.production_events-size.result =
-        place_of l (table_facts l c.requires.0.is_whole) c.loop-p.at c.loop-p.p c.production_events-size.result c.production_count-n.result
-        c.production_count-n.ensures c.loop-p-test.true c.loop-p.invariant.place c.production_events-size.ensures in
+    place_of l (table_facts l c.requires.0.is_whole) c.loop-p.at c.loop-p.p c.production_events-size.result c.production_count-n.result
+    c.production_count-n.ensures c.loop-p-test.true c.loop-p.invariant.place c.production_events-size.ensures in
     let stretch = drop c.args.from (take c.args.to (slots_of c.args.events.now)) in
     let walk = walked (lent_setting c.args.maps.now c.args.limit) none none (expanded (run (event_entry l) c.loop-p.at c.production_events-size.result)) stretch in
     let p = c.requires in
     -- its first event does not pass the quick test
     let another : walk ≡ Followed.No =
-        seems_not (lent_setting c.args.maps.now c.args.limit) l (table_facts l p.0.is_whole) (λ k. omega (arith, c.shared_slice_known-1.given k)) c.loop-p.at c.production_events-size.result
-        (slots_of c.args.events.now) c.args.from c.args.to (length_slots c.args.events.now) p.0.room p.1 g.some g.within p.0.ranges
-        (ap (seems l c.loop-p.at) (sym p.2) ∙ sym c.seems_one.ensures ∙ c.if-seems_one.false) in
+    seems_not (lent_setting c.args.maps.now c.args.limit) l (table_facts l p.0.is_whole) (λ k. omega (arith, c.shared_slice_known-1.given k)) c.loop-p.at c.production_events-size.result
+    (slots_of c.args.events.now) c.args.from c.args.to (length_slots c.args.events.now) p.0.room p.1 g.some g.within p.0.ranges
+    (ap (seems l c.loop-p.at) (sym p.2) ∙ sym c.seems_one.ensures ∙ c.if-seems_one.false) in
     let a = c.args in
     let v = c.loop-p in
     passing_no (lent_setting a.maps.now a.limit) a.table.now stretch v.seen v.at v.p c.production_events-size.result v.invariant g.there g.is_size

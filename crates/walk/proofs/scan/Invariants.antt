@@ -1,6 +1,5 @@
 -- `walk::scan` meets its contract.
 use Prim.Native.Nat.{◌-◌}
-use mathlib.Core.Path.{refl, sym}
 use lib.ListN.{take, drop}
 use Rattle.keyboard.specs.Maps.{lent_setting}
 use Rattle.states.specs.State.{slots_of}

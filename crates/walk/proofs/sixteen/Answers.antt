@@ -1,5 +1,5 @@
 -- `walk::sixteen` meets its contract.
-use Prim.Native.Nat.{◌+◌, ◌-◌, ◌≤◌, ◌<◌}
+use Prim.Native.Nat.{◌+◌, ◌≤◌, ◌<◌}
 use native.Mathlib.Omega.{arith}
 use mathlib.Core.Path.{◌≡◌, refl, sym, ap, ap₂, ◌∙◌}
 use Rattle.words.specs.Runs.{total}
@@ -33,9 +33,9 @@ unfolding production_events
 overflow_add-sum c =
     let word : c.word_at-sum.result ≡ production_events c.args.table.now (c.args.p + c.loop-i.i) = c.word_at-sum.ensures in
     let small : c.loop-i.sum + c.word_at-sum.result ≤ 256 =
-        let l = c.args.table.now in
-        let h : c.args.p + c.loop-i.i < production_total l = omega (arith, c.requires.1, c.loop-i-test.true) in
-        omega (arith, span_most l (table_facts l c.requires.0) c.args.p c.loop-i.i h, c.loop-i.invariant.2, word) in
+    let l = c.args.table.now in
+    let h : c.args.p + c.loop-i.i < production_total l = omega (arith, c.requires.1, c.loop-i-test.true) in
+    omega (arith, span_most l (table_facts l c.requires.0) c.args.p c.loop-i.i h, c.loop-i.invariant.2, word) in
     omega (arith, small)
 
 pub overflow_add-i : goal.overflow_add-i
@@ -49,9 +49,9 @@ unfolding production_events
 loop-i-preserved c =
     let word : c.word_at-sum.result ≡ production_events c.args.table.now (c.args.p + c.loop-i.i) = c.word_at-sum.ensures in
     let small : c.loop-i.sum + c.word_at-sum.result ≤ 256 =
-        let l = c.args.table.now in
-        let h : c.args.p + c.loop-i.i < production_total l = omega (arith, c.requires.1, c.loop-i-test.true) in
-        omega (arith, span_most l (table_facts l c.requires.0) c.args.p c.loop-i.i h, c.loop-i.invariant.2, word) in
+    let l = c.args.table.now in
+    let h : c.args.p + c.loop-i.i < production_total l = omega (arith, c.requires.1, c.loop-i-test.true) in
+    omega (arith, span_most l (table_facts l c.requires.0) c.args.p c.loop-i.i h, c.loop-i.invariant.2, word) in
     let a = c.args in
     let v = c.loop-i in
     (omega (arith, c.loop-i-test.true), small, ap₂ ◌+◌ v.invariant.2 word ∙ sym (total_more (production_events a.table.now) a.p v.i))

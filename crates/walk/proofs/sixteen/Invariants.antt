@@ -1,6 +1,6 @@
 -- `walk::sixteen` meets its contract.
 use Prim.Native.Nat.{◌-◌, ◌≤◌}
-use mathlib.Core.Path.{◌≡◌, refl, sym}
+use mathlib.Core.Path.{◌≡◌}
 use Rattle.words.specs.Runs.{total}
 use Rattle.tables.specs.Reading.{production_events}
 use Rattle.walk.proofs.sixteen.Given as goal

@@ -3,12 +3,11 @@ use Prim.Native.Nat.{◌+◌, ◌≤◌}
 use native.Mathlib.Omega.{arith}
 use mathlib.Core.Path.{◌≡◌, refl, sym, ◌∙◌}
 use borrow.Author.Tests.{not-true, not-false}
-use Rattle.model.specs.Setting.{Setting}
 use Rattle.tables.specs.Reading.{decode}
 use Rattle.walk.specs.declared.Passed.{Passed}
 use Rattle.follow.specs.Follow.{WalkReady}
 use Rattle.keyboard.specs.Maps.{lent_setting}
-use Rattle.states.proofs.StateLaws.{StateFacts, state_facts}
+use Rattle.states.proofs.StateLaws.{state_facts}
 use Rattle.acting.proofs.MoveLaws.{left_room, left_within, left_ready, heard_shut, heard_no, heard_yes}
 use Rattle.acting.proofs.moves.heard.Goals as goal
 
@@ -34,7 +33,7 @@ put_event-requires c =
     let left = c.left_for-left in
     -- what is left has room for the event
     let room : left.result.kept ≤ 24 =
-        left_room (decode c.args.table.now) setting c.args.state facts c.args.x left.result (left.ensures (decode c.args.table.now) setting) in
+    left_room (decode c.args.table.now) setting c.args.state facts c.args.x left.result (left.ensures (decode c.args.table.now) setting) in
     omega (arith, room, facts.long)
 
 pub overflow_add-to : goal.overflow_add-to
@@ -44,7 +43,7 @@ overflow_add-to c =
     let left = c.left_for-left in
     -- what is left has room for the event
     let room : left.result.kept ≤ 24 =
-        left_room (decode c.args.table.now) setting c.args.state facts c.args.x left.result (left.ensures (decode c.args.table.now) setting) in
+    left_room (decode c.args.table.now) setting c.args.state facts c.args.x left.result (left.ensures (decode c.args.table.now) setting) in
     omega (arith, room)
 
 pub slice_bounds-restart-end : goal.slice_bounds-restart-end
@@ -54,9 +53,9 @@ slice_bounds-restart-end c =
     let left = c.left_for-left in
     -- the slots with the event are ready to be walked along
     let ready : WalkReady c.args.table.now c.args.maps.now c.put_event.new.out (left.result.kept + 1) =
-        let p = c.requires in
-        left_ready (decode c.args.table.now) setting c.args.state facts c.args.x left.result (left.ensures (decode c.args.table.now) setting) c.put_event.new.out c.put_event.ensures
-        c.args.table.now c.args.maps.now p.0.0 p.0.1 p.1.1 in
+    let p = c.requires in
+    left_ready (decode c.args.table.now) setting c.args.state facts c.args.x left.result (left.ensures (decode c.args.table.now) setting) c.put_event.new.out c.put_event.ensures
+    c.args.table.now c.args.maps.now p.0.0 p.0.1 p.1.1 in
     sym ready.long
 
 pub restart-requires : goal.restart-requires
@@ -66,9 +65,9 @@ restart-requires c =
     let left = c.left_for-left in
     -- the slots with the event are ready to be walked along
     let ready : WalkReady c.args.table.now c.args.maps.now c.put_event.new.out (left.result.kept + 1) =
-        let p = c.requires in
-        left_ready (decode c.args.table.now) setting c.args.state facts c.args.x left.result (left.ensures (decode c.args.table.now) setting) c.put_event.new.out c.put_event.ensures
-        c.args.table.now c.args.maps.now p.0.0 p.0.1 p.1.1 in
+    let p = c.requires in
+    left_ready (decode c.args.table.now) setting c.args.state facts c.args.x left.result (left.ensures (decode c.args.table.now) setting) c.put_event.new.out c.put_event.ensures
+    c.args.table.now c.args.maps.now p.0.0 p.0.1 p.1.1 in
     (ready, omega arith)
 
 pub returns-then-not-left : goal.returns-then-not-left
@@ -87,9 +86,9 @@ slice_bounds-pass-end c =
     let left = c.left_for-left in
     -- the slots with the event are ready to be walked along
     let ready : WalkReady c.args.table.now c.args.maps.now c.put_event.new.out (left.result.kept + 1) =
-        let p = c.requires in
-        left_ready (decode c.args.table.now) setting c.args.state facts c.args.x left.result (left.ensures (decode c.args.table.now) setting) c.put_event.new.out c.put_event.ensures
-        c.args.table.now c.args.maps.now p.0.0 p.0.1 p.1.1 in
+    let p = c.requires in
+    left_ready (decode c.args.table.now) setting c.args.state facts c.args.x left.result (left.ensures (decode c.args.table.now) setting) c.put_event.new.out c.put_event.ensures
+    c.args.table.now c.args.maps.now p.0.0 p.0.1 p.1.1 in
     sym ready.long
 
 pub pass-requires : goal.pass-requires
@@ -99,9 +98,9 @@ pass-requires c =
     let left = c.left_for-left in
     -- the slots with the event are ready to be walked along
     let ready : WalkReady c.args.table.now c.args.maps.now c.put_event.new.out (left.result.kept + 1) =
-        let p = c.requires in
-        left_ready (decode c.args.table.now) setting c.args.state facts c.args.x left.result (left.ensures (decode c.args.table.now) setting) c.put_event.new.out c.put_event.ensures
-        c.args.table.now c.args.maps.now p.0.0 p.0.1 p.1.1 in
+    let p = c.requires in
+    left_ready (decode c.args.table.now) setting c.args.state facts c.args.x left.result (left.ensures (decode c.args.table.now) setting) c.put_event.new.out c.put_event.ensures
+    c.args.table.now c.args.maps.now p.0.0 p.0.1 p.1.1 in
     (ready, omega arith)
 
 pub slice_bounds-restart-end-in-No : goal.slice_bounds-restart-end-in-No
@@ -111,9 +110,9 @@ slice_bounds-restart-end-in-No c =
     let left = c.left_for-left in
     -- the slots with the event are ready to be walked along
     let ready : WalkReady c.args.table.now c.args.maps.now c.put_event.new.out (left.result.kept + 1) =
-        let p = c.requires in
-        left_ready (decode c.args.table.now) setting c.args.state facts c.args.x left.result (left.ensures (decode c.args.table.now) setting) c.put_event.new.out c.put_event.ensures
-        c.args.table.now c.args.maps.now p.0.0 p.0.1 p.1.1 in
+    let p = c.requires in
+    left_ready (decode c.args.table.now) setting c.args.state facts c.args.x left.result (left.ensures (decode c.args.table.now) setting) c.put_event.new.out c.put_event.ensures
+    c.args.table.now c.args.maps.now p.0.0 p.0.1 p.1.1 in
     sym ready.long
 
 pub restart-requires-in-No : goal.restart-requires-in-No
@@ -123,12 +122,12 @@ restart-requires-in-No c =
     let left = c.left_for-left in
     -- the slots with the event are ready to be walked along
     let ready : WalkReady c.args.table.now c.args.maps.now c.put_event.new.out (left.result.kept + 1) =
-        let p = c.requires in
-        left_ready (decode c.args.table.now) setting c.args.state facts c.args.x left.result (left.ensures (decode c.args.table.now) setting) c.put_event.new.out c.put_event.ensures
-        c.args.table.now c.args.maps.now p.0.0 p.0.1 p.1.1 in
+    let p = c.requires in
+    left_ready (decode c.args.table.now) setting c.args.state facts c.args.x left.result (left.ensures (decode c.args.table.now) setting) c.put_event.new.out c.put_event.ensures
+    c.args.table.now c.args.maps.now p.0.0 p.0.1 p.1.1 in
     -- its mark lies within it
     let marked : left.result.selected ≤ left.result.kept =
-        left_within (decode c.args.table.now) setting c.args.state facts c.args.x left.result (left.ensures (decode c.args.table.now) setting) in
+    left_within (decode c.args.table.now) setting c.args.state facts c.args.x left.result (left.ensures (decode c.args.table.now) setting) in
     (ready, omega (arith, c.used_up.ensures, marked))
 
 pub returns-in-No : goal.returns-in-No

@@ -1,5 +1,5 @@
 -- `acting::moves::shifted` meets its contract.
-use Prim.Native.Nat.{ℕ, ◌-◌, ◌<◌}
+use Prim.Native.Nat.{ℕ, ◌<◌}
 use native.Mathlib.Omega.{arith}
 use mathlib.Core.Path.{◌≡◌, sym, ap, ◌∙◌}
 use lib.ListN.{length, take, drop}
@@ -17,11 +17,11 @@ loop-i-init c =
 pub slice_bounds-put_event-end : goal.slice_bounds-put_event-end
 slice_bounds-put_event-end c =
     let long : length c.loop-i.slots ≡ 200 =
-        let a = c.args in
-        let v = c.loop-i in
-        let l = slots_of a.events.now in
-        let n = length_slots a.events.now in
-        ap length v.invariant.2 ∙ length_in (drop a.from (take v.i l)) (omega (arith, n, length-slice a.from v.i l (omega (arith, n)))) in
+    let a = c.args in
+    let v = c.loop-i in
+    let l = slots_of a.events.now in
+    let n = length_slots a.events.now in
+    ap length v.invariant.2 ∙ length_in (drop a.from (take v.i l)) (omega (arith, n, length-slice a.from v.i l (omega (arith, n)))) in
     sym long
 
 pub overflow_sub-i : goal.overflow_sub-i
@@ -33,11 +33,11 @@ event_at-requires c = omega arith
 pub put_event-requires : goal.put_event-requires
 put_event-requires c =
     let long : length c.loop-i.slots ≡ 200 =
-        let a = c.args in
-        let v = c.loop-i in
-        let l = slots_of a.events.now in
-        let n = length_slots a.events.now in
-        ap length v.invariant.2 ∙ length_in (drop a.from (take v.i l)) (omega (arith, n, length-slice a.from v.i l (omega (arith, n)))) in
+    let a = c.args in
+    let v = c.loop-i in
+    let l = slots_of a.events.now in
+    let n = length_slots a.events.now in
+    ap length v.invariant.2 ∙ length_in (drop a.from (take v.i l)) (omega (arith, n, length-slice a.from v.i l (omega (arith, n)))) in
     omega (arith, long)
 
 pub overflow_add-i : goal.overflow_add-i

@@ -1,6 +1,6 @@
 -- `acting::moves::shifted` meets its contract.
 use Prim.Native.Nat.{◌-◌, ◌≤◌}
-use mathlib.Core.Path.{◌≡◌, sym}
+use mathlib.Core.Path.{◌≡◌}
 use lib.ListN.{take, drop}
 use Rattle.states.specs.State.{slots_of, in_slots}
 use Rattle.acting.proofs.moves.shifted.Given as goal

@@ -1,4 +1,3 @@
--- the parts are those of the definition, and stand for the model's events
 use Prim.Native.Nat.{ℕ}
 use Rattle.model.specs.Events.{events_at}
 use Rattle.event_scanner.proofs.Meaning.{spans_read}
@@ -10,6 +9,7 @@ use mathlib.Core.Path.{◌∙◌, ◌≡◌, ap}
 use native.Mathlib.Omega.{arith}
 use Rattle.event_scanner.proofs.events.read_event.Goals as goal
 
+-- the parts are those of the definition, and stand for the model's events
 means : {r : EventRead} (l : List ℕ) (at : ℕ) → r ≡ spans_at l at → (r ≡ spans_at l at) × (read_of l r ≡ events_at l at)
 means l at e = (e, ap (read_of l) e ∙ spans_read l at)
 

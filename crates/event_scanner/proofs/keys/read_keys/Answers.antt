@@ -1,4 +1,3 @@
--- what is left from i on gives the whole; f is fuel that suffices there
 use Prim.Native.Nat.{◌+◌, pred}
 use Rattle.model.specs.Events.{key_at, keys_from}
 use Rattle.model.specs.declared.scan.KeyRead.{KeyRead}

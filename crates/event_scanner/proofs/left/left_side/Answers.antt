@@ -1,4 +1,3 @@
--- what is left from at on gives the whole; f is fuel that suffices there
 use Prim.Native.Nat.{◌+◌, pred}
 use Rattle.model.specs.Events.{left_side}
 use Rattle.model.specs.declared.scan.AfterEvent.{AfterEvent}

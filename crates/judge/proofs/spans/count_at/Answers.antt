@@ -6,6 +6,7 @@ use Rattle.judge.specs.Judged.{count_of, count_summary}
 use Rattle.judge.specs.Spans.{CountSpanIn}
 use Rattle.judge.proofs.spans.count_at.Goals as goal
 
+-- where the digits stand
 pub slice_bounds-count_of-count : goal.slice_bounds-count_of-count
 slice_bounds-count_of-count c =
     let f = subst (CountSpanIn (length c.args.l.now)) c.in-Digits.is c.requires in f.0

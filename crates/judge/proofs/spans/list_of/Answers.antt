@@ -1,5 +1,4 @@
 -- `judge::spans::list_of` meets its contract, by the kind of the list.
--- the list by its kind
 use Prim.Native.Nat.{ℕ}
 use mathlib.Core.Path.{◌≡◌, sym, ap, ◌∙◌}
 use mathlib.Core.List.{List}
@@ -11,6 +10,7 @@ use Rattle.list_scanner.specs.ModifierLists.{modifiers_in, list_of_kind}
 use Rattle.list_masks.specs.Summary.{summary_of}
 use Rattle.judge.proofs.spans.list_of.Goals as goal
 
+-- the list by its kind
 by_kind : (l : List ℕ) (list : ListSpans) (k : ListKind) → list.kind ≡ k
     → summary_of (list_in l list)
     ≡ summary_of (list_of_kind k list.bang list.colon (modifiers_in (modifiers_at l list.start)))

@@ -34,6 +34,8 @@ returns-in-End c =
     read_end _ _ _ _ _ _ c.loop-s.invariant _
     (sym c.modifier_at.ensures ∙ c.in-End.is)
 
+-- ---- A name was read
+
 pub slice_bounds-modifier_named-count : goal.slice_bounds-modifier_named-count
 slice_bounds-modifier_named-count c = let f = place c.args.l.now c.loop-s.i _ _ c.loop-s.invariant.inside c.modifier_at.ensures c.in-Name.is in omega (arith, f.0, f.1, f.2)
 
@@ -62,6 +64,8 @@ loop-s-preserved-in-Name c =
     (omega (arith, f.0, f.1, f.2))
     f.2
 
+-- ---- A keysym was read
+
 pub slice_bounds-key_detail-count : goal.slice_bounds-key_detail-count
 slice_bounds-key_detail-count c = let f = place c.args.l.now c.loop-s.i _ _ c.loop-s.invariant.inside c.modifier_at.ensures c.in-Keysym.is in omega (arith, f.0, f.1, f.2)
 
@@ -71,6 +75,7 @@ slice_bounds-key_detail-start c = let f = place c.args.l.now c.loop-s.i _ _ c.lo
 pub slice_bounds-key_detail-end : goal.slice_bounds-key_detail-end
 slice_bounds-key_detail-end c = let f = place c.args.l.now c.loop-s.i _ _ c.loop-s.invariant.inside c.modifier_at.ensures c.in-Keysym.is in omega (arith, f.0, f.1, f.2)
 
+-- the run begins with a byte
 pub with_keysym-s-requires : goal.with_keysym-s-requires
 with_keysym-s-requires c = (
   read_value_in _ _ _ _ _ _ c.loop-s.invariant,

@@ -42,6 +42,8 @@ returns-in-End c =
     right_end x.invariant.0 (sym w.ensures.0 ∙ c.in-End.is)
     (subst (CallPut a.l.now a.base (a.n + x.calls) (a.p + x.parameters) x.out w.new.out) c.in-End.is w.ensures.1)
 
+-- ---- A whole call was read
+
 pub overflow_add-calls : goal.overflow_add-calls
 overflow_add-calls c =
     let g = c.loop-count.invariant.0 in

@@ -37,6 +37,8 @@ returns-in-Refuse c =
     left_refused c.args.l.now x.at x.crowded x.kept x.expanded x.invariant.0.left c.in-Refuse.n
     (sym c.write_event.ensures.0 ∙ c.in-Refuse.is)
 
+-- ---- The turn at which something is kept
+
 pub overflow_add-kept : goal.overflow_add-kept
 overflow_add-kept c =
     let x = c.loop-n in
