@@ -19,13 +19,19 @@ fn put_reason(out: &mut impl Write, number: u8) -> io::Result<()> {
         2 => out.write_all(b"the text is longer than 8,192 bytes"),
         3 => out.write_all(b"this byte may not stand in a table's text"),
         4 => out.write_all(b"the line is not in the grammar"),
-        5 => out.write_all(b"an unknown modifier, event type or detail, or a detail where none is taken"),
+        5 => out.write_all(
+            b"an unknown modifier, event type or detail, or a detail where none is taken",
+        ),
         6 => out.write_all(b"a count or a number is out of range"),
         7 => out.write_all(b"modifiers stand before an event type that takes none"),
         8 => out.write_all(b"no state of the modifiers meets this event"),
-        9 => out.write_all(b"a colon stands before an event that is no key event, or beside Shift or Lock"),
+        9 => out.write_all(
+            b"a colon stands before an event that is no key event, or beside Shift or Lock",
+        ),
         10 => out.write_all(b"counts with + and atoms as details are not supported yet"),
-        11 => out.write_all(b"too many productions, events, calls or parameters, or keysyms in an event"),
+        11 => out.write_all(
+            b"too many productions, events, calls or parameters, or keysyms in an event",
+        ),
         _ => out.write_all(b"the text is refused"),
     }
 }

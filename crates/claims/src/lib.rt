@@ -1,3 +1,2 @@
 // The claims that no single call states. specs/ words them, and proofs/ shows them.
 #![tactic(auto)]
-

@@ -155,7 +155,15 @@ fn with_meta(out: &mut impl Write, table: &[u8], text: &[u8], meta_row: usize) -
 
 fn three_clicks(out: &mut impl Write, table: &[u8], text: &[u8], s: State) -> io::Result<State> {
     let s = click(out, table, text, s, NONE, 1000, b"click at 1000")?;
-    let s = click(out, table, text, s, NONE, 1100, b"click at 1100, a double click")?;
+    let s = click(
+        out,
+        table,
+        text,
+        s,
+        NONE,
+        1100,
+        b"click at 1100, a double click",
+    )?;
     click(
         out,
         table,
@@ -169,10 +177,34 @@ fn three_clicks(out: &mut impl Write, table: &[u8], text: &[u8], s: State) -> io
 
 // 4294967196 is 100 before the clock's wrap.
 fn across_the_wrap(out: &mut impl Write, table: &[u8], text: &[u8], s: State) -> io::Result<State> {
-    let s = click(out, table, text, s, NONE, 4294967196, b"click at 4294967196")?;
+    let s = click(
+        out,
+        table,
+        text,
+        s,
+        NONE,
+        4294967196,
+        b"click at 4294967196",
+    )?;
     let s = click(out, table, text, s, NONE, 99, b"click at 99, 199 ms later")?;
-    let s = click(out, table, text, s, NONE, 4294967196, b"click at 4294967196")?;
-    click(out, table, text, s, NONE, 100, b"click at 100, 200 ms later")
+    let s = click(
+        out,
+        table,
+        text,
+        s,
+        NONE,
+        4294967196,
+        b"click at 4294967196",
+    )?;
+    click(
+        out,
+        table,
+        text,
+        s,
+        NONE,
+        100,
+        b"click at 100, 200 ms later",
+    )
 }
 
 fn with_caps_lock(out: &mut impl Write, table: &[u8], text: &[u8], s: State) -> io::Result<State> {
@@ -187,7 +219,15 @@ fn with_caps_lock(out: &mut impl Write, table: &[u8], text: &[u8], s: State) -> 
         b"Ctrl G at 9100, Caps Lock on",
     )?;
     let s = key(out, table, text, s, NONE, 9200, b"G at 9200")?;
-    click(out, table, text, s, LOCK, 9300, b"click at 9300, Caps Lock on")
+    click(
+        out,
+        table,
+        text,
+        s,
+        LOCK,
+        9300,
+        b"click at 9300, Caps Lock on",
+    )
 }
 
 // One motion in a line stands for any number of them.
@@ -195,9 +235,33 @@ fn drag(out: &mut impl Write, table: &[u8], text: &[u8], s: State) -> io::Result
     let press = record(BUTTON_PRESS, 1, NONE, 20000);
     let release = record(BUTTON_RELEASE, 1, NONE, 20040);
     let s = hear(out, table, text, MOD1_ROW, s, press, b"press at 20000")?;
-    let s = hear(out, table, text, MOD1_ROW, s, motion(20010), b"motion at 20010")?;
-    let s = hear(out, table, text, MOD1_ROW, s, motion(20020), b"motion at 20020")?;
-    let s = hear(out, table, text, MOD1_ROW, s, motion(20030), b"motion at 20030")?;
+    let s = hear(
+        out,
+        table,
+        text,
+        MOD1_ROW,
+        s,
+        motion(20010),
+        b"motion at 20010",
+    )?;
+    let s = hear(
+        out,
+        table,
+        text,
+        MOD1_ROW,
+        s,
+        motion(20020),
+        b"motion at 20020",
+    )?;
+    let s = hear(
+        out,
+        table,
+        text,
+        MOD1_ROW,
+        s,
+        motion(20030),
+        b"motion at 20030",
+    )?;
     hear(out, table, text, MOD1_ROW, s, release, b"release at 20040")
 }
 

@@ -18,7 +18,7 @@ pub returns : goal.returns
 returns c =
     let a = c.args in
     let h =
-        match_long a.table.now (lent_setting a.maps.now a.time) a.state.now a.«record».now a.order c.if-state-lt-STATE_LENGTH.false
-        c.load_state.result c.load_state.ensures c.match_event-answer.result c.match_event-answer.ensures.answer
-        c.matched_word.result c.keep.new.out c.matched_word.ensures c.keep.ensures in
+    match_long a.table.now (lent_setting a.maps.now a.time) a.state.now a.«record».now a.order c.if-state-lt-STATE_LENGTH.false
+    c.load_state.result c.load_state.ensures c.match_event-answer.result c.match_event-answer.ensures.answer
+    c.matched_word.result c.keep.new.out c.matched_word.ensures c.keep.ensures in
     record { value = h.0; state_after = h.1 }

@@ -1,4 +1,3 @@
--- what is left from i on gives the whole; f is fuel that suffices there
 use Prim.Native.Nat.{◌+◌, pred}
 use Rattle.model.specs.Calls.{parameter_at, parameters_from, span}
 use Rattle.model.specs.declared.scan.ParameterRead.{ParameterRead}

@@ -1,4 +1,3 @@
--- what is left from i on gives the whole; f is fuel that suffices there
 use Prim.Native.Nat.{◌+◌, ◌-◌, ◌<◌, ◌≤◌, ℕ}
 use Rattle.model.specs.Calls.{parameters_from}
 use Rattle.call_scanner.proofs.RightSide.{counted_from}
@@ -7,6 +6,7 @@ use lib.ListN.{length}
 use mathlib.Core.Path.{◌≡◌}
 use Rattle.call_scanner.proofs.right.count_parameters.Given as goal
 
+-- what is left from i on gives the whole; f is fuel that suffices there
 abbrev pub invariant-loop-next : goal.invariant-loop-next
 invariant-loop-next l =
     (f : ℕ) × (length l.l < f + l.i) × (l.i ≤ length l.l) × (l.count ≤ l.i)

@@ -1,4 +1,3 @@
--- what is left from i on gives the whole; f is fuel that suffices there
 use Prim.Native.Nat.{◌+◌, pred, ℕ}
 use Rattle.model.specs.Calls.{call_at, calls_from, right_side}
 use Rattle.call_scanner.proofs.RightSide.{CallSpansIn, call_spans_in, right_start, right_step_lem, right_from}

@@ -1,4 +1,3 @@
--- what is left from i on gives the whole; f is fuel that suffices there
 use Prim.Native.Nat.{◌+◌, ◌-◌, ◌<◌, ◌≤◌, ℕ}
 use Rattle.model.specs.Calls.{calls_from, right_side}
 use Rattle.call_scanner.proofs.RightSide.{right_from}
@@ -7,6 +6,7 @@ use lib.ListN.{length}
 use mathlib.Core.Path.{◌≡◌}
 use Rattle.call_scanner.proofs.right.right_side.Given as goal
 
+-- what is left from i on gives the whole; f is fuel that suffices there
 abbrev pub invariant-loop-count : goal.invariant-loop-count
 invariant-loop-count l =
     (f : ℕ) × (length l.l < f + l.i) × (l.i ≤ length l.l) × (l.calls ≤ l.i) × (l.parameters ≤ l.i)

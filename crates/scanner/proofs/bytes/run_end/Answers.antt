@@ -1,4 +1,3 @@
--- what is left from i on gives the whole
 use borrow.Author.Rules.{rules}
 use mathlib.Core.Path.{refl, sym, ◌∙◌}
 use Rattle.scanner.proofs.Runs.{run_more, run_stop, run_last}

@@ -1,4 +1,3 @@
--- what is left from i on gives the whole
 use Rattle.model.specs.Bytes.{first_bad_byte}
 use Rattle.scanner.proofs.BadBytes.{bad_here, bad_later, bad_nowhere}
 use borrow.Author.Rules.{rules}

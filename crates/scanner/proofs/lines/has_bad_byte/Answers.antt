@@ -1,4 +1,3 @@
--- what is left from i on gives the whole
 use Rattle.scanner.proofs.BadBytes.{bad_end, bad_step, given_bad}
 use borrow.Author.Rules.{rules}
 use mathlib.Core.Path.{◌∙◌, sym}

@@ -1,4 +1,3 @@
--- what is left from i on gives the whole
 use Prim.Native.Nat.{◌-◌, ◌≤◌}
 use Rattle.model.specs.Bytes.{first_bad_byte}
 use Rattle.model.specs.Lists.{any, given}
@@ -8,6 +7,7 @@ use mathlib.Core.Bool.{◌||◌}
 use mathlib.Core.Path.{◌≡◌}
 use Rattle.scanner.proofs.lines.has_bad_byte.Given as goal
 
+-- what is left from i on gives the whole
 abbrev pub invariant-loop-i : goal.invariant-loop-i
 invariant-loop-i l = (l.i ≤ length l.text) × (given (first_bad_byte l.text) ≡ l.bad || any is_bad (drop l.i l.text))
 

@@ -1,5 +1,4 @@
 -- `writing::bytes::put_packed` meets its contract.
--- with what is left put after it, all is put
 use borrow.Author.Rules.{rules}
 use native.Mathlib.Omega.{arith}
 use mathlib.Core.Path.{◌≡◌, sym}
