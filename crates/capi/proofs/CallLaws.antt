@@ -1,10 +1,10 @@
 -- What one call of `tt_match` does to the lent bytes of a state, whatever they are.
 use Prim.Native.Nat.{ℕ, ◌≤◌, ◌<◌}
 use native.Mathlib.Omega.{arith}
-use borrow.Author.Tests.{lt-ltb, le-ltb, ltb-true, ltb-false, eq-eqb, eqb-true}
+use borrow.Author.Tests.{lt-ltb, ltb-true, ltb-false, eq-eqb, eqb-true}
 use mathlib.Core.Path.{◌≡◌, refl, sym, ap, ◌∙◌}
 use mathlib.Core.Bool.{Bool, true, false, not, false≢true}
-use mathlib.Core.List.{List, ◌++◌}
+use mathlib.Core.List.{List}
 use mathlib.Core.Option.{Option, none, some}
 use lib.Dec.{eqb, ltb}
 use lib.ListN.{length, drop}
@@ -31,9 +31,9 @@ use Rattle.matcher.proofs.MatchLaws.{past_all}
 use Rattle.acting.specs.Act.{step_answer, refused_with}
 use Rattle.matcher.specs.Match.{too_short, match_number, call_answer}
 use Rattle.states.proofs.StateLaws.{state_facts}
-use Rattle.capi.specs.State.{state_length, store, load}
+use Rattle.capi.specs.State.{store, load}
 use Rattle.capi.specs.Match.{stored, keeps, left_by, matched_on, state_left}
-use Rattle.capi.specs.Laws.{CallLaws, EveryCall}
+use Rattle.capi.specs.Laws.{EveryCall}
 use Rattle.capi.proofs.StateLaws.{length_store}
 use Rattle.capi.proofs.Matches.{left_dropped}
 use Rattle.capi.proofs.Demand.{Holds, given, answer_is, left_is, left_kept, given_whole, left_good}

@@ -1,11 +1,11 @@
 -- Demand 3 of the calls that follow an accepted `tt_compile` or `tt_merge`.
-use Prim.Native.Nat.{ℕ, ◌+◌, ◌*◌, ◌<◌}
+use Prim.Native.Nat.{ℕ}
 use native.Mathlib.Omega.{arith}
 use borrow.Author.Tests.{ltb-false}
 use mathlib.Core.Path.{◌≡◌, refl, sym, ap, ◌∙◌}
 use mathlib.Core.Bool.{Bool, true, false}
 use mathlib.Core.List.{List}
-use lib.Dec.{eqb, ltb}
+use lib.Dec.{ltb}
 use lib.ListN.{length}
 use Rattle.model.specs.Tables.{Table}
 use Rattle.model.specs.Compiling.{Outcome, accepted, refused, compiled, compile_outcome, outcome_answer}
@@ -14,7 +14,7 @@ use Rattle.model.specs.declared.answers.Merged.{Merged}
 use Rattle.tables.specs.Layout.{table_length}
 use Rattle.tables.specs.Reading.{decode}
 use Rattle.compiler.specs.Compile.{compiled_bytes}
-use Rattle.merger.specs.Merge.{merge_number, number_answer, merge_answer, merged_bytes}
+use Rattle.merger.specs.Merge.{number_answer, merge_answer, merged_bytes}
 use Rattle.merger.proofs.Answer.{answer_number}
 use Rattle.claims.proofs.Numbered.{refused_numbered}
 use Rattle.claims.proofs.Compiling.{demand3_compiled}

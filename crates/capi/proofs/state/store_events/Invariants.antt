@@ -1,6 +1,6 @@
 -- `capi::state::store_events` meets its contract.
 use Prim.Native.Nat.{◌-◌, ◌≤◌}
-use mathlib.Core.Path.{◌≡◌, refl}
+use mathlib.Core.Path.{◌≡◌}
 use lib.ListN.{length}
 use lib.Seq.{paste}
 use Rattle.capi.proofs.state.store_events.Given as goal

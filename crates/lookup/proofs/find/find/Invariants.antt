@@ -1,6 +1,6 @@
 -- `lookup::find::find` meets its contract. The loop's invariant: what is left of the range gives the whole. Assumes nothing.
 use Prim.Native.Nat.{◌-◌, ◌≤◌}
-use mathlib.Core.Path.{◌≡◌, refl, sym}
+use mathlib.Core.Path.{◌≡◌}
 use lib.ListN.{length}
 use Rattle.names.specs.Places.{name_total}
 use Rattle.names.specs.Table.{spelling_of, Bytes, longest_name}

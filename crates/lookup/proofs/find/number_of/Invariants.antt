@@ -1,6 +1,6 @@
 -- `lookup::find::number_of` meets its contract. The loop's invariant: the bytes from i on make the number, which has no more digits
 -- than they are. Assumes nothing.
-use Prim.Native.Nat.{suc, ◌-◌, ◌^◌, ◌≤◌, ◌<◌}
+use Prim.Native.Nat.{◌-◌, ◌^◌, ◌≤◌, ◌<◌}
 use mathlib.Core.Path.{◌≡◌}
 use Rattle.model.specs.Lists.{part}
 use Rattle.names.specs.Table.{packed}
