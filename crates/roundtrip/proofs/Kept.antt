@@ -14,7 +14,7 @@ use Rattle.model.specs.Numbers.{event_order}
 use Rattle.model.specs.Codes.{is_key, is_button, motion_notify, has_mode, mapping_notify, has_atom, takes_modifiers}
 use Rattle.model.specs.Names.{shift_bit, lock_bit, type_named, type_entries, protocol_entries, synonym_entries, abbreviation_entries}
 use Rattle.model.specs.Details.{detail_named}
-use Rattle.model.specs.Events.{Modifier, ModifierList, listed, no_modifier, any_modifier, Written, WrittenEvent, event, key}
+use Rattle.model.specs.Events.{ModifierList, listed, no_modifier, any_modifier, Written, WrittenEvent, event, key}
 use Rattle.model.specs.Modifiers.{bit, bits, mask, button_bits, is_shift_or_lock, lists_set, lists_clear, has, has_colon, is_written, adds_bit, adds_clause, asks_others_clear, untested_by_colon, asks_set, asks_clear, set_mask, clear_mask, keeps_clause, no_state_meets, asks_bit, is_testable}
 use Rattle.model.specs.Named.{adds_meta, names_mask, keysyms_from, keysyms_of, is_crowded, keysyms_in, no_keysyms, has_names, keeps_names}
 use Rattle.model.specs.Judging.{fixes, detail_of, read_value, kept_detail, has_standard, is_unknown, is_out_of_range, is_unbuilt, is_list_not_taken, is_colon_misplaced, is_impossible, kept_clear, kept_bang, kept_event, event_number, keep_unless, judged_as, judged_written, key_press_of, judged_mark, judged}

@@ -8,13 +8,13 @@ use lib.Dec.{eqb, leb, ltb, lit<}
 use lib.ListN.{length, get_or}
 use lib.Seq.{append_snoc}
 use borrow.Author.Tests.{eqb-true, eqb-false, ltb-true, le-ltb, ne_eqb, eq-eqb}
-use Rattle.model.specs.Lists.{any, all, those, is_empty}
+use Rattle.model.specs.Lists.{any, all, is_empty}
 use Rattle.model.specs.Limits.{keysym_limit}
 use Rattle.model.specs.Details.{key_detail}
 use Rattle.model.specs.Modifiers.{bit, bit_if, sum_bits}
 use Rattle.model.specs.Named as Rules
 use Rattle.model.specs.Named.{form_bits, is_form, lists_form, adds_form, names_mask, listed_mark, marked_keysym, is_listed, with_keysym, with_modifier, with_read, keysyms_from, is_crowded, keysyms_in, has_names, keeps_names}
-use Rattle.model.specs.Events.{Modifier, keysym}
+use Rattle.model.specs.Events.{Modifier}
 use Rattle.model.specs.Canonical.{hexadecimal}
 use Rattle.model.specs.declared.events.Keysyms.{Keysyms}
 use Rattle.model.specs.declared.events.KeptEvent.{KeptEvent}

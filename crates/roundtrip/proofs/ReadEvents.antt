@@ -10,7 +10,7 @@ use Rattle.model.specs.Lists.{all}
 use Rattle.model.specs.Bytes.{byte_at, is_tab, is_newline, in_range}
 use Rattle.model.specs.Events.{WrittenEvent, EventsRead, events, left_side}
 use Rattle.model.specs.Calls.{WrittenCall, CallsRead, calls, right_side}
-use Rattle.model.specs.Compiling.{LineRead, production, with_calls, with_events, line_read}
+use Rattle.model.specs.Compiling.{LineRead, with_calls, with_events, line_read}
 use Rattle.model.specs.declared.events.KeptEvent.{KeptEvent}
 use Rattle.modifiers.proofs.Below.{both_left, both_right}
 use Rattle.judge.proofs.LineRanges.{AllWritten, ReadIn, left_written}

@@ -20,5 +20,5 @@ pub returns : goal.returns
 unfolding event_entry event_from_words
 returns c =
     let f : TableFacts c.args.table.now = table_facts c.args.table.now c.requires.0 in
-    let m = first_mark c.args.table.now (λ k. omega (arith, c.shared_slice_known-1.given k)) c.args.i (f.entry c.args.i c.requires.1) in
+    let m = first_mark c.args.table.now (λ k. omega (arith, c.type_inv.table k)) c.args.i (f.entry c.args.i c.requires.1) in
     rw (c.word_at-flags.ensures, c.word_at-high.ensures, m)

@@ -16,5 +16,5 @@ returns c =
     let l = a.events.now in
     let p = c.requires in
     let e : every (low_bytes l) 0 a.kept ≡ true
-    = every_all (low_bytes l) 0 a.kept (λ i h. rw zero-add (low_bytes_lem l i (λ k b. omega (arith, c.shared_slice_known-1.given k)) (omega arith))) in
+    = every_all (low_bytes l) 0 a.kept (λ i h. rw zero-add (low_bytes_lem l i (λ k b. omega (arith, c.type_inv.events k)) (omega arith))) in
     rw e (ap₂ ◌&&◌ c.used_whole.ensures c.bytes_zero.ensures)

@@ -19,7 +19,7 @@ returns-then-one-gt3 c =
     let a = c.args in
     let p = c.requires in
     let l = a.table.now in
-    outside_code (map_numbers a.maps.now) l (table_facts l p.0.is_whole) (λ k. omega (arith, c.shared_slice_known-1.given k)) (slots_of a.events.now) a.from a.to
+    outside_code (map_numbers a.maps.now) l (table_facts l p.0.is_whole) (λ k. omega (arith, c.type_inv.table k)) (slots_of a.events.now) a.from a.to
     (length_slots a.events.now) p.0.room p.1 p.0.ranges a.one p.2 c.reach_of_code.result.low c.reach_of_code.result.high c.reach_of_code.ensures
 
 pub overflow_add-from : goal.overflow_add-from
@@ -33,7 +33,7 @@ returns-then-from-to c =
     let a = c.args in
     let p = c.requires in
     let l = a.table.now in
-    outside_begins (map_numbers a.maps.now) l (table_facts l p.0.is_whole) (λ k. omega (arith, c.shared_slice_known-1.given k)) (slots_of a.events.now) a.from a.to
+    outside_begins (map_numbers a.maps.now) l (table_facts l p.0.is_whole) (λ k. omega (arith, c.type_inv.table k)) (slots_of a.events.now) a.from a.to
     (length_slots a.events.now) p.0.room p.1 p.0.ranges a.one p.2 c.reach_alone.result.low c.reach_alone.result.high c.reach_alone.ensures
 
 pub overflow_add-from-2 : goal.overflow_add-from-2
@@ -66,6 +66,6 @@ returns c =
     let a = c.args in
     let p = c.requires in
     let l = a.table.now in
-    outside_pairs (map_numbers a.maps.now) l (table_facts l p.0.is_whole) (λ k. omega (arith, c.shared_slice_known-1.given k)) (slots_of a.events.now) a.from a.to
+    outside_pairs (map_numbers a.maps.now) l (table_facts l p.0.is_whole) (λ k. omega (arith, c.type_inv.table k)) (slots_of a.events.now) a.from a.to
     (length_slots a.events.now) p.0.room p.1 p.0.ranges a.one p.2 c.reach_paired.result.low c.reach_paired.result.high
     c.sought_of-two.result next second c.reach_paired.ensures

@@ -170,7 +170,7 @@ loop-p-preserved c =
     let p = c.requires in
     -- its first event does not pass the quick test
     let another : walk ≡ Followed.No =
-    seems_not (lent_setting c.args.maps.now c.args.limit) l (table_facts l p.0.is_whole) (λ k. omega (arith, c.shared_slice_known-1.given k)) c.loop-p.at c.production_events-size.result
+    seems_not (lent_setting c.args.maps.now c.args.limit) l (table_facts l p.0.is_whole) (λ k. omega (arith, c.type_inv.table k)) c.loop-p.at c.production_events-size.result
     (slots_of c.args.events.now) c.args.from c.args.to (length_slots c.args.events.now) p.0.room p.1 g.some g.within p.0.ranges
     (ap (seems l c.loop-p.at) (sym p.2) ∙ sym c.seems_one.ensures ∙ c.if-seems_one.false) in
     let a = c.args in
