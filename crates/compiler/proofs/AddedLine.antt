@@ -180,7 +180,7 @@ module _ (ps : List Production) (base : ℕ) (l : List ℕ) (p : Production) (g 
         calls = subst (λ (r : CallsRead). CallsFit r (totals_of ps).calls (totals_of ps).parameters) (sym (ap (right_side l) start ∙ g.right)) c;
         production = omega (arith, n.productions, s.productions);
         few_events = omega (arith, s.kept, s.events);
-        few_calls_lem = omega (arith, s.called, s.calls);
+        few_calls = omega (arith, s.called, s.calls);
       }
 
   -- ---- The bytes once it is written

@@ -40,7 +40,7 @@ pub record LineFits (l : List ℕ) (t : Totals) (line : Line) : Type 0 where
   pub calls : CallsFit (right_side l line.right) t.calls t.parameters
   pub production : t.productions < 64
   pub few_events : line.events ≤ 256
-  pub few_calls_lem : line.calls ≤ 128
+  pub few_calls : line.calls ≤ 128
 
 -- the header of a table of one text
 unfoldable pub put_header : List ℕ → Directive → Totals → (text : ℕ) → List ℕ

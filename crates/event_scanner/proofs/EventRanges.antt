@@ -32,7 +32,7 @@ CountSpanIn n from (CountSpan.Digits start end plus) = (from < start) × (start 
 -- the parts of an event that is read from a position of a line of n bytes
 pub record PlainIn (n at : ℕ) (s : EventSpans) : Type 0 where
   pub list : at ≤ s.list.start
-  pub name_from_lem : s.list.start < s.name.start
+  pub name_from : s.list.start < s.name.start
   pub name : s.name.start < s.name.end
   pub count : CountSpanIn n s.name.end s.count
   pub detail_from : s.name.end < s.detail.start
@@ -53,7 +53,7 @@ module _ (l : List ℕ) (at : ℕ) (list : ListSpans) (from : at ≤ list.start)
       let s' = skip_in l p f in
       record {
         list = from;
-        name_from_lem = a;
+        name_from = a;
         name = b;
         count = d;
         detail_from = omega arith;
@@ -119,7 +119,7 @@ EventsIn n at (events es next) = (at < next) × (next ≤ n)
 read_in : (l : List ℕ) (at : ℕ) (r : EventRead) → EventIn (length l) at r → EventsIn (length l) at (read_of l r)
 read_in l at EventRead.Broken h = tt
 read_in l at (EventRead.Plain s) h =
-    (omega (arith, h.list, h.name_from_lem, h.name, h.detail_from, h.detail), h.within)
+    (omega (arith, h.list, h.name_from, h.name, h.detail_from, h.detail), h.within)
 read_in l at (EventRead.Keys start count next) h = (omega (arith, h.0, h.1), h.2)
 
 pub events_in_lem : (l : List ℕ) (at : ℕ) → at ≤ length l → EventsIn (length l) at (events_at l at)

@@ -39,7 +39,7 @@ module _ (l : List ℕ) where
       let e = run_end Class.Name l p in
       let x = at_skip l e ran.next z in
       let d : Grammar.DerivesEventType r (part l p e) q
-      = rw ran.word (Grammar.DerivesEventType.event_type_lem t y (record { run = run; some = refl }) (record { before = z })) in
+      = rw ran.word (Grammar.DerivesEventType.event_type t y (record { run = run; some = refl }) (record { before = z })) in
       rw (ran_some l ran, at_byte l (skip l e) j x) (type d (at_next l (skip l e) (code ">") q x))
   type_run_lem {r} {m} {s} {j} p t y (b ∷ w) k run ran z (isnt f) =
       let e = run_end Class.Name l p in
@@ -273,7 +273,7 @@ module _ (l : List ℕ) where
       → Modifiers.DerivesModifierList r ml k → Grammar.DerivesEventType k w n → Grammar.OptionalCount n count q → Grammar.DerivesDetail q d m
       → EventGot p (record { list = ml; type_name = w; count = count; detail = d }) m
   unfolding plain_event_at
-  event_typed {w = w} {ml = ml} {count = count} p x dl (Grammar.DerivesEventType.event_type_lem {m = m1} s y word z) dc dd =
+  event_typed {w = w} {ml = ml} {count = count} p x dl (Grammar.DerivesEventType.event_type {m = m1} s y word z) dc dd =
       let g = list_complete l p x dl s in
       let h = type_complete g.next g.at y word z in
       let i = count_complete ml w h.next h.at dc in
@@ -288,7 +288,7 @@ module _ (l : List ℕ) where
   event_complete p x (Grammar.DerivesEvent.event dl dt dc dd) = event_typed p x dl dt dc dd
 
   type_length : {r w m : List ℕ} → Grammar.DerivesEventType r w m → length m < length r
-  type_length (Grammar.DerivesEventType.event_type_lem s y word z) = omega (arith, sign_length s, blanks_length y, word_length word, sign_length z)
+  type_length (Grammar.DerivesEventType.event_type s y word z) = omega (arith, sign_length s, blanks_length y, word_length word, sign_length z)
 
   count_length : {r m : List ℕ} {count : Option Written.Count} → Grammar.OptionalCount r count m → length m ≤ length r
   count_length (Grammar.OptionalCount.absent y e) = blanks_length y

@@ -11,7 +11,7 @@ use Rattle.grammar.specs.Modifiers.{DerivesModifierList}
 -- "<"event_type">"
 pub data DerivesEventType : List ℕ → List ℕ → List ℕ → Type 0 where
   -- "a type is the longest run of letters and digits"; whether there is such a type is judged later, by number 5
-  event_type_lem : {l m n k r w : List ℕ} → Sign "<" l m → Blanks m n → Word letter_or_digit n w k → Sign ">" k r → DerivesEventType l w r
+  event_type : {l m n k r w : List ℕ} → Sign "<" l m → Blanks m n → Word letter_or_digit n w k → Sign ">" k r → DerivesEventType l w r
 
 -- [ "(" count["+"] ")" ]
 pub data OptionalCount : List ℕ → Option Count → List ℕ → Type 0 where

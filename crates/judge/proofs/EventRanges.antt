@@ -138,7 +138,7 @@ module _ (w : Written) (ty : EventType) (t : TypeIn ty) (h : WrittenIn (event w)
       record {
         code_from = t.code_from;
         code_to = t.code_to;
-        count_from_lem = n.from;
+        count_from = n.from;
         count_to = n.to;
         count_taken = n.taken;
         set = mask_below (asks_set w.list ty.added);
@@ -175,7 +175,7 @@ key_press_in set names byte hs hn hb =
     record {
       code_from = lit≤ tt;
       code_to = lit≤ tt;
-      count_from_lem = lit≤ tt;
+      count_from = lit≤ tt;
       count_to = lit≤ tt;
       count_taken = refl;
       set = hs;

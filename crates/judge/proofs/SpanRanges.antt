@@ -23,8 +23,8 @@ count_span n from (CountSpan.Digits start end plus) h = (omega (arith, h.1), ome
 pub spans_within : (n at : ℕ) (s : EventSpans) → scanner.PlainIn n at s → SpansIn n s
 spans_within n at s h =
     record {
-      list = omega (arith, h.name_from_lem, h.name, h.detail_from, h.detail, h.within);
-      name_from_lem = omega (arith, h.name);
+      list = omega (arith, h.name_from, h.name, h.detail_from, h.detail, h.within);
+      name_from = omega (arith, h.name);
       name_to = omega (arith, h.detail_from, h.detail, h.within);
       count = count_span n s.name.end s.count h.count;
       detail_from = h.detail;

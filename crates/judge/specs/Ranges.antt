@@ -25,7 +25,7 @@ pub record TypeIn (ty : EventType) : Type 0 where
 pub record EventIn (e : KeptEvent) : Type 0 where
   pub code_from : 2 ≤ e.code
   pub code_to : e.code ≤ 34
-  pub count_from_lem : 1 ≤ e.count
+  pub count_from : 1 ≤ e.count
   pub count_to : e.count ≤ 9
   -- above 1 on codes 2..5 only
   pub count_taken : leb e.count 1 || takes_count e.code ≡ true

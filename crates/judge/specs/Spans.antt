@@ -26,7 +26,7 @@ CountSpanIn n (CountSpan.Digits start end plus) = (start ≤ end) × (end ≤ n)
 
 pub record SpansIn (n : ℕ) (s : EventSpans) : Type 0 where
   pub list : s.list.start ≤ n
-  pub name_from_lem : s.name.start ≤ s.name.end
+  pub name_from : s.name.start ≤ s.name.end
   pub name_to : s.name.end ≤ n
   pub count : CountSpanIn n s.count
   pub detail_from : s.detail.start ≤ s.detail.end

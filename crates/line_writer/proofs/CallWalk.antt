@@ -301,8 +301,8 @@ pub record CallsWalk (l : List ℕ) (at base n p : ℕ) (before out : List ℕ) 
   pub f : ℕ
   pub enough : length l < f + i
   pub inside : i ≤ length l
-  pub few_calls_lem : c ≤ i
-  pub few_parameters_lem : q ≤ i
+  pub few_calls : c ≤ i
+  pub few_parameters : q ≤ i
   pub whole : right_of (right_side l at) ≡ right_from c q m (calls_from f l i)
   pub put : CallsFit (right_side l at) n p
       → CallsLeft l base (put_calls before n p (map (call_of base) (calls_in (right_side l at)))) out (n + c) (p + q) i
@@ -316,8 +316,8 @@ right_start l at base n p out h =
       f = length l + 1;
       enough = omega arith;
       inside = h;
-      few_calls_lem = omega arith;
-      few_parameters_lem = omega arith;
+      few_calls = omega arith;
+      few_parameters = omega arith;
       whole = scanner.right_start (calls_from (length l + 1) l at);
       put = λ fit.
           subst (λ (k : ℕ). CallsLeft l base (put_calls out n p (map (call_of base) (calls_in (right_side l at)))) out k (p + 0) at) a
@@ -352,8 +352,8 @@ module _ {l : List ℕ} {at base n p : ℕ} {before out : List ℕ} {i c q m : �
           f = pred g.f;
           enough = omega (arith, g.enough, g.inside, b.0, b.1, b.2);
           inside = b.3;
-          few_calls_lem = omega (arith, g.few_calls_lem, b.0, b.1, b.2);
-          few_parameters_lem = omega (arith, g.few_parameters_lem, b.0, b.1, b.2);
+          few_calls = omega (arith, g.few_calls, b.0, b.1, b.2);
+          few_parameters = omega (arith, g.few_parameters, b.0, b.1, b.2);
           whole =
               turned (CallSpans.Call start end count next) e
               ∙ ap (λ (x : ℕ). right_from (c + 1) (q + count) x (calls_from (pred g.f) l next)) (sym k);

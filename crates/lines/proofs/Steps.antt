@@ -79,7 +79,7 @@ CountsIn n at (events es next) = (at + length es ≤ next) × (next ≤ n)
 read_counts : (l : List ℕ) (at : ℕ) (r : EventRead) → EventIn (length l) at r → KeysWhole l r → CountsIn (length l) at (read_of l r)
 read_counts l at EventRead.Broken h w = tt
 read_counts l at (EventRead.Plain s) h w =
-    (omega (arith, h.list, h.name_from_lem, h.name, h.detail_from, h.detail), h.within)
+    (omega (arith, h.list, h.name_from, h.name, h.detail_from, h.detail), h.within)
 read_counts l at (EventRead.Keys start count next) h w =
     let k : KeysIn (length l) start (read_of l (EventRead.Keys start count next)) =
     subst (KeysIn (length l) start) w.1 (keys_in (length l + 1) l start) in

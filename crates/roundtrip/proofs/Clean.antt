@@ -141,7 +141,7 @@ event_clean e w =
     (all_append clean (type_text e) (code ">" ∷ (count_text e.count ++ detail_text e.code e.detail))
     (letters_clean (type_text e) t.letters)
     (all_append clean (count_text e.count) (detail_text e.code e.detail)
-    (count_clean e.count w.range.count_from_lem w.range.count_to) (detail_clean e.code e.detail w.sound.detail)))
+    (count_clean e.count w.range.count_from w.range.count_to) (detail_clean e.code e.detail w.sound.detail)))
 
 events_clean : (es : List KeptEvent) → AllKept es → all (all clean) (each event_text es) ≡ true
 events_clean [] k = refl

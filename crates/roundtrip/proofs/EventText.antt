@@ -102,7 +102,7 @@ derive_count n r low high b c =
 derive_type : (w r : List ℕ) → all letter_or_digit w ≡ true → is_some w ≡ true
     → Grammar.DerivesEventType (code "<" ∷ (w ++ (code ">" ∷ r))) w r
 derive_type w r a s =
-    Grammar.DerivesEventType.event_type_lem (sign "<" (w ++ (code ">" ∷ r)) refl)
+    Grammar.DerivesEventType.event_type (sign "<" (w ++ (code ">" ∷ r)) refl)
     (no_blanks (w ++ (code ">" ∷ r)) (begins_not letter_or_digit blank letter_blank w (code ">" ∷ r) a refl))
     (word letter_or_digit w (code ">" ∷ r) a s refl)
     (sign ">" r refl)
@@ -279,7 +279,7 @@ module _ (e : KeptEvent) where
         let a : all letter_or_digit (detail_text e.code e.detail) ≡ true = detail_letters e.code e.detail w.sound.detail in
         rw event_text_lem
         (Grammar.DerivesEvent.event (derive_list (type_text e ++ (code ">" ∷ after_type))) (derive_type (type_text e) after_type t.letters t.some)
-        (derive_count e.count detailed w.range.count_from_lem w.range.count_to
+        (derive_count e.count detailed w.range.count_from w.range.count_to
         (begins_not letter_or_digit blank letter_blank (detail_text e.code e.detail) r a ends.blank)
         (begins_not letter_or_digit (λ b. is_code b "(") letter_bracket (detail_text e.code e.detail) r a ends.bracket))
         (derive_detail (detail_text e.code e.detail) r a ends))

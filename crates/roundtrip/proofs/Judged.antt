@@ -167,7 +167,7 @@ module _ (e : KeptEvent) (w : KeptWell e) where
       (λ q. buttons_asked e w ∙ w.sound.buttons q)
 
   counted : CountJudged e.code e.count
-  counted = count_judged e.code e.count w.range.count_from_lem w.range.count_to w.range.count_taken
+  counted = count_judged e.code e.count w.range.count_from w.range.count_to w.range.count_taken
 
   detailed : DetailJudged (type_of e.code e.clause) (detail_text e.code e.detail) e.detail
   detailed = detail_judged e.code e.clause e.detail w.sound.detail

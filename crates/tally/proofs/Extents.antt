@@ -64,14 +64,14 @@ module _ (l : List ℕ) (p : ℕ) where
   pub within : whole l ≡ true → p < production_total l → (y : Extent) → y ≡ extent_at l p → Within y
   unfolding extent_at
   within w h y e =
-      let c = facts.calls_in_lem l w p h in
-      let q = facts.parameters_in_lem l w (first_call l p + production_calls l p) c in
+      let c = facts.calls_in l w p h in
+      let q = facts.parameters_in l w (first_call l p + production_calls l p) c in
       let m = facts.from_mono l (first_call l p) (first_call l p + production_calls l p) (omega arith) in
-      let a = facts.few_calls_lem l w in
-      let b = facts.few_parameters_lem l w in
+      let a = facts.few_calls l w in
+      let b = facts.few_parameters l w in
       rw e
       (record {
-        events = facts.events_in_lem l w p h;
+        events = facts.events_in l w p h;
         calls = c;
         few_calls = omega arith;
         parameters = omega arith;

@@ -65,25 +65,25 @@ module _ (l : List ℕ) (w : whole l ≡ true) where
   unfolding first_length_in
   first_short = checked.header.first
 
-  pub few_calls_lem : call_total l ≤ 128
+  pub few_calls : call_total l ≤ 128
   unfolding call_total
-  few_calls_lem = checked.header.calls
+  few_calls = checked.header.calls
 
-  pub few_parameters_lem : parameter_total l ≤ 256
+  pub few_parameters : parameter_total l ≤ 256
   unfolding parameter_total
-  few_parameters_lem = checked.header.parameters
+  few_parameters = checked.header.parameters
 
-  pub events_in_lem : (p : ℕ) → p < production_total l → first_event l p + production_events l p ≤ 256
+  pub events_in : (p : ℕ) → p < production_total l → first_event l p + production_events l p ≤ 256
   unfolding production_total first_event production_events
-  events_in_lem p h = omega (arith, events_within_lem l checked.sums p h, checked.header.events)
+  events_in p h = omega (arith, events_within_lem l checked.sums p h, checked.header.events)
 
-  pub calls_in_lem : (p : ℕ) → p < production_total l → first_call l p + production_calls l p ≤ call_total l
+  pub calls_in : (p : ℕ) → p < production_total l → first_call l p + production_calls l p ≤ call_total l
   unfolding production_total first_call production_calls call_total
-  calls_in_lem p h = calls_within_lem l checked.sums p h
+  calls_in p h = calls_within_lem l checked.sums p h
 
-  pub parameters_in_lem : (i : ℕ) → i ≤ call_total l → first_parameter l i ≤ parameter_total l
+  pub parameters_in : (i : ℕ) → i ≤ call_total l → first_parameter l i ≤ parameter_total l
   unfolding call_total first_parameter parameter_total
-  parameters_in_lem i h = omega (arith, total_mono (word_at l) call_parameters_at i (word_at l 6) h, checked.sums.parameters)
+  parameters_in i h = omega (arith, total_mono (word_at l) call_parameters_at i (word_at l 6) h, checked.sums.parameters)
 
   -- ---- Words
 

@@ -28,7 +28,7 @@ put_production-requires c =
     outcome_added c.args.s.totals c.args.out.now u c.args.base c.args.l.now c.in-Add.line
     (sym c.in-Add.is ∙ c.judge_line.ensures.0 u.ps c.args.base u.totals u.kept) in
     let f = added_fits t out u c.args.base c.args.l.now c.in-Add.line x in
-    ((omega (arith, underway_length t out u, c.judge_line.auto.out), f.production), (omega (arith, f.few_events), omega (arith, f.few_calls_lem)))
+    ((omega (arith, underway_length t out u, c.judge_line.auto.out), f.production), (omega (arith, f.few_events), omega (arith, f.few_calls)))
 
 pub with_line-more-requires : goal.with_line-more-requires
 with_line-more-requires c =

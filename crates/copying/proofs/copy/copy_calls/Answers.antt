@@ -14,19 +14,19 @@ pub loop-i-init : goal.loop-i-init
 loop-i-init c = (search rules, c.requires, refl, puts_start (put_call_in c.args.second) (call_entry c.args.l.now) c.args.from c.args.at c.args.n c.args.out.now)
 
 pub overflow_add-from : goal.overflow_add-from
-overflow_add-from c = let w = c.requires.0.0 in let z = facts.long c.args.l.now w in let y = facts.few_calls_lem c.args.l.now w in let x = facts.few_parameters_lem c.args.l.now w in omega arith
+overflow_add-from c = let w = c.requires.0.0 in let z = facts.long c.args.l.now w in let y = facts.few_calls c.args.l.now w in let x = facts.few_parameters c.args.l.now w in omega arith
 
 pub call_name-name-requires : goal.call_name-name-requires
-call_name-name-requires c = let w = c.requires.0.0 in let z = facts.long c.args.l.now w in let y = facts.few_calls_lem c.args.l.now w in let x = facts.few_parameters_lem c.args.l.now w in (z, omega arith)
+call_name-name-requires c = let w = c.requires.0.0 in let z = facts.long c.args.l.now w in let y = facts.few_calls c.args.l.now w in let x = facts.few_parameters c.args.l.now w in (z, omega arith)
 
 pub overflow_add-from-in-loop-i : goal.overflow_add-from-in-loop-i
-overflow_add-from-in-loop-i c = let w = c.requires.0.0 in let z = facts.long c.args.l.now w in let y = facts.few_calls_lem c.args.l.now w in let x = facts.few_parameters_lem c.args.l.now w in omega arith
+overflow_add-from-in-loop-i c = let w = c.requires.0.0 in let z = facts.long c.args.l.now w in let y = facts.few_calls c.args.l.now w in let x = facts.few_parameters c.args.l.now w in omega arith
 
 pub call_parameters-parameters-requires : goal.call_parameters-parameters-requires
-call_parameters-parameters-requires c = let w = c.requires.0.0 in let z = facts.long c.args.l.now w in let y = facts.few_calls_lem c.args.l.now w in let x = facts.few_parameters_lem c.args.l.now w in (z, omega arith)
+call_parameters-parameters-requires c = let w = c.requires.0.0 in let z = facts.long c.args.l.now w in let y = facts.few_calls c.args.l.now w in let x = facts.few_parameters c.args.l.now w in (z, omega arith)
 
 pub put_call-requires : goal.put_call-requires
-put_call-requires c = let w = c.requires.0.0 in let z = facts.long c.args.l.now w in let y = facts.few_calls_lem c.args.l.now w in let x = facts.few_parameters_lem c.args.l.now w in
+put_call-requires c = let w = c.requires.0.0 in let z = facts.long c.args.l.now w in let y = facts.few_calls c.args.l.now w in let x = facts.few_parameters c.args.l.now w in
     let s = facts.name_short c.args.l.now w (c.args.from + c.loop-i.i) (omega arith) in
     let t = facts.parameters_short c.args.l.now w (c.args.from + c.loop-i.i) (omega arith) in (
       (omega (arith, c.loop-i.invariant.2, c.requires.1.0), omega arith),

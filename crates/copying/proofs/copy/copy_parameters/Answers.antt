@@ -13,13 +13,13 @@ pub loop-i-init : goal.loop-i-init
 loop-i-init c = (search rules, c.requires, refl, puts_start put_parameter (parameter_entry c.args.l.now) c.args.from c.args.at c.args.n c.args.out.now)
 
 pub overflow_add-from : goal.overflow_add-from
-overflow_add-from c = let w = c.requires.0.0 in let z = facts.long c.args.l.now w in let y = facts.few_calls_lem c.args.l.now w in let x = facts.few_parameters_lem c.args.l.now w in omega arith
+overflow_add-from c = let w = c.requires.0.0 in let z = facts.long c.args.l.now w in let y = facts.few_calls c.args.l.now w in let x = facts.few_parameters c.args.l.now w in omega arith
 
 pub parameter_span-s-requires : goal.parameter_span-s-requires
-parameter_span-s-requires c = let w = c.requires.0.0 in let z = facts.long c.args.l.now w in let y = facts.few_calls_lem c.args.l.now w in let x = facts.few_parameters_lem c.args.l.now w in (z, omega arith)
+parameter_span-s-requires c = let w = c.requires.0.0 in let z = facts.long c.args.l.now w in let y = facts.few_calls c.args.l.now w in let x = facts.few_parameters c.args.l.now w in (z, omega arith)
 
 pub put_parameter-requires : goal.put_parameter-requires
-put_parameter-requires c = let w = c.requires.0.0 in let z = facts.long c.args.l.now w in let y = facts.few_calls_lem c.args.l.now w in let x = facts.few_parameters_lem c.args.l.now w in
+put_parameter-requires c = let w = c.requires.0.0 in let z = facts.long c.args.l.now w in let y = facts.few_calls c.args.l.now w in let x = facts.few_parameters c.args.l.now w in
     let s = facts.parameter_short c.args.l.now w (c.args.from + c.loop-i.i) (omega arith) in (
       (omega (arith, c.loop-i.invariant.2, c.requires.1.0), omega arith),
       (rw c.parameter_span-s.ensures (omega arith), rw c.parameter_span-s.ensures (omega arith)),

@@ -12,18 +12,18 @@ loop-count-init c =
 pub overflow_add-n : goal.overflow_add-n
 overflow_add-n c =
     let g = c.loop-count.invariant.0 in
-    omega (arith, g.few_calls_lem, g.few_parameters_lem, g.inside, c.requires.0.1, c.requires.1.1)
+    omega (arith, g.few_calls, g.few_parameters, g.inside, c.requires.0.1, c.requires.1.1)
 
 pub overflow_add-p : goal.overflow_add-p
 overflow_add-p c =
     let g = c.loop-count.invariant.0 in
-    omega (arith, g.few_calls_lem, g.few_parameters_lem, g.inside, c.requires.0.1, c.requires.1.2)
+    omega (arith, g.few_calls, g.few_parameters, g.inside, c.requires.0.1, c.requires.1.2)
 
 pub write_call-requires : goal.write_call-requires
 write_call-requires c =
     let x = c.loop-count in
     let g = x.invariant.0 in
-    ((g.inside, c.requires.0.1), (omega (arith, c.requires.1.0, x.invariant.1), omega (arith, g.few_calls_lem, g.few_parameters_lem, g.inside, c.requires.0.1, c.requires.1.2)))
+    ((g.inside, c.requires.0.1), (omega (arith, c.requires.1.0, x.invariant.1), omega (arith, g.few_calls, g.few_parameters, g.inside, c.requires.0.1, c.requires.1.2)))
 
 pub shape_of-out-in-Broken : goal.shape_of-out-in-Broken
 shape_of-out-in-Broken c = c.write_call.auto.out ∙ c.loop-count.invariant.1
@@ -47,13 +47,13 @@ returns-in-End c =
 pub overflow_add-calls : goal.overflow_add-calls
 overflow_add-calls c =
     let g = c.loop-count.invariant.0 in
-    omega (arith, g.few_calls_lem, g.inside, c.requires.0.1)
+    omega (arith, g.few_calls, g.inside, c.requires.0.1)
 
 pub overflow_add-parameters : goal.overflow_add-parameters
 overflow_add-parameters c =
     let g = c.loop-count.invariant.0 in
     let b = call_bounds g (sym c.write_call.ensures.0 ∙ c.in-Call.is) in
-    omega (arith, g.few_parameters_lem, b.0, b.1, b.2, b.3, c.requires.0.1)
+    omega (arith, g.few_parameters, b.0, b.1, b.2, b.3, c.requires.0.1)
 
 pub loop-count-smaller : goal.loop-count-smaller
 loop-count-smaller c =

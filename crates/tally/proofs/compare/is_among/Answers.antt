@@ -33,8 +33,8 @@ production_events-m-requires c = let v = c.requires.1.0 in let y = facts.long c.
 
 pub same_lists-requires : goal.same_lists-requires
 same_lists-requires c = let w = c.requires.0.0 in let z = facts.long c.args.l.now w in let x = facts.few_productions c.args.l.now w in let v = c.requires.1.0 in let y = facts.long c.args.other.now v in let u = facts.few_productions c.args.other.now v in
-    let g = facts.events_in_lem c.args.l.now w c.args.p c.requires.0.1 in
-    let h = facts.events_in_lem c.args.other.now v c.loop-q.q (omega arith) in
+    let g = facts.events_in c.args.l.now w c.args.p c.requires.0.1 in
+    let h = facts.events_in c.args.other.now v c.loop-q.q (omega arith) in
     ((z, omega (arith, c.events_from-a.ensures, c.production_events-k.ensures)), (y, omega (arith, c.loop-q.invariant.2, c.production_events-m.ensures)))
 
 pub returns-then-same_lists : goal.returns-then-same_lists
@@ -52,7 +52,7 @@ returns-then-same_lists c =
 
 pub overflow_add-b : goal.overflow_add-b
 overflow_add-b c = let v = c.requires.1.0 in let y = facts.long c.args.other.now v in let u = facts.few_productions c.args.other.now v in
-    let h = facts.events_in_lem c.args.other.now v c.loop-q.q (omega arith) in
+    let h = facts.events_in c.args.other.now v c.loop-q.q (omega arith) in
     omega (arith, c.loop-q.invariant.2, c.production_events-m.ensures)
 
 pub loop-q-preserved : goal.loop-q-preserved
