@@ -1,6 +1,6 @@
 -- Demand 3, about `tt_match`: its calls are made on the bytes of a table under the setting of lent maps and a time, its states
 -- are lent bytes, and each call returns one number. `Demand3` and what it speaks of are in crates/model/specs/Demand and
--- Selection; `matchedOn`, `matchedWord`, `stateLeft` and `freshBytes` are what the contracts of `tt_match` and `tt_fresh` say,
+-- Selection; `matched_on`, `matched_word`, `state_left` and `fresh_bytes` are what the contracts of `tt_match` and `tt_fresh` say,
 -- for all input.
 use Rattle.std.specs.Prelude.{ℕ, ◌-◌, ◌/◌, ◌%◌, ◌≤◌, ◌≡◌, true, cond, List, [], ◌∷◌, map, eqb, length}
 use Rattle.std.proofs.Math.Option.{Option, none, some}

@@ -1,6 +1,6 @@
 -- Demand 3, about the matcher that runs: its calls are made on the bytes of a table, and its states are the values that it
 -- hands back. `Demand3` and what it speaks of, the steps over every heard event, contexts and selections, are in
--- crates/model/specs/Demand and Selection; `matchAnswer` is what the contract of `match_event` says, for all input.
+-- crates/model/specs/Demand and Selection; `match_answer` is what the contract of `match_event` says, for all input.
 use Rattle.std.specs.Prelude.{ℕ, ◌≡◌, true, List, ◌++◌}
 use Rattle.model.specs.Setting.{Setting}
 use Rattle.model.specs.Tables.{Table}

@@ -1,4 +1,4 @@
--- The elements of a counted event by their place, the same as model's `elementsAt` (proofs/Elements).
+-- The elements of a counted event by their place, the same as model's `elements_at` (proofs/Elements).
 use Rattle.std.specs.Prelude.{ℕ, ◌+◌, ◌-◌, ◌*◌, ◌%◌, Bool, false, cond, ◌==◌, nat_le, nat_lt}
 use Rattle.model.specs.Counts.{is_release}
 

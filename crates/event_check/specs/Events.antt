@@ -1,5 +1,5 @@
 -- The tests of a table's events, word by word, as the code makes them. proofs/EventTests shows that with those of the keysyms
--- after `@` they come to `eventInRange`.
+-- after `@` they come to `event_in_range`.
 use Rattle.std.specs.Prelude.{ℕ, ◌+◌, ◌/◌, ◌%◌, Bool, ◌&&◌, ◌||◌, List, leb, ltb, eqb}
 use Rattle.words.specs.Words.{word_at}
 use Rattle.tables.specs.Layout.{codes_at, counts_at, sets_at, clears_at, flags_at, lows_at, highs_at}

@@ -2,7 +2,7 @@
 -- (proofs/FilterLaws), so a production whose first event does not pass need not be walked.
 --
 -- One event, and the productions that it leaves: the key with the pair (0x61, 0x41) is pressed, no modifier is down, and the
--- stretch is this event alone. What it asks of the table (`soughtOf`): code 2, state 0, and both its keysyms folded, which
+-- stretch is this event alone. What it asks of the table (`sought_of`): code 2, state 0, and both its keysyms folded, which
 -- is without the bit in which cases differ, are 0x41. Of a table of four productions and five events
 --
 --     event   stands in               code / 2   low word, folded   seems   bits asked set   may begin

@@ -1,5 +1,5 @@
 -- How a stretch of events is walked along the elements of a production. walk's proofs/PassLaws shows that this comes to
--- model's `readsAsPrefix` and `isWholeSequence`.
+-- model's `reads_as_prefix` and `is_whole_sequence`.
 use Rattle.std.specs.Prelude.{ℕ, ◌≤◌, ◌<◌, ◌≡◌, Bool, true, cond, not, ◌&&◌, ◌||◌, List, [], ◌∷◌, eqb, leb, length, get_or}
 use Rattle.std.proofs.Math.Option.{Option, some}
 use Rattle.model.specs.Setting.{Setting, first_keysym, second_keysym}

@@ -5,7 +5,7 @@
 --     s<Key>a, "^b": f(x) g()
 --     0     6  9     15   20       places in the line
 --
---     Lhs     Item, event     s<Key>a    the event { list = [s]; typeName = Key; count = none; detail = a }
+--     Lhs     Item, event     s<Key>a    the event { list = [s]; type_name = Key; count = none; detail = a }
 --             ","
 --             Item, keyseq    "^b"       the key { mark = Control; byte = b }, one for each character
 --     ":"

@@ -1,4 +1,4 @@
--- The number and the event of `judgedParts`, from the answers of the functions that each make a check.
+-- The number and the event of `judged_parts`, from the answers of the functions that each make a check.
 use Prim.Native.Nat.{ℕ}
 use mathlib.Core.Path.{◌≡◌, sym, ap, ◌∙◌}
 use mathlib.Core.Bool.{Bool, true, false, cond, not, ◌&&◌, ◌||◌}

@@ -1,4 +1,4 @@
--- An event judged by the value of its modifier list is judged as model's `judgedAs` says.
+-- An event judged by the value of its modifier list is judged as model's `judged_as` says.
 use Prim.Native.Nat.{ℕ, ◌<◌}
 use native.Mathlib.Omega.{arith}
 use mathlib.Core.Path.{◌≡◌, refl, sym, ap, ap₂, ◌∙◌}

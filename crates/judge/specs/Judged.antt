@@ -1,4 +1,4 @@
--- An event judged by the values of its modifier list, count and detail, the same as model's `judgedAs` (proofs/Same).
+-- An event judged by the values of its modifier list, count and detail, the same as model's `judged_as` (proofs/Same).
 use Rattle.std.specs.Prelude.{ℕ, Bool, cond, not, ◌&&◌, ◌||◌, List, eqb}
 use Rattle.std.proofs.Math.Option.{Option, none, some}
 use Rattle.model.specs.Numbers.{event_order}

@@ -11,7 +11,7 @@ use Rattle.keyboard.specs.declared.Pair.{Pair}
 abbrev pub pair_at : List ℕ → ℕ → Pair
 pair_at map keycode = record { first = first_keysym map keycode; second = second_keysym map keycode }
 
--- `pairMatches` of a test that asks these bits set and clear, and this colon (proofs/Pairs shows that it is the same)
+-- `pair_matches` of a test that asks these bits set and clear, and this colon (proofs/Pairs shows that it is the same)
 unfoldable pub pair_asked : ℕ → ℕ → Bool → ℕ → ℕ → ℕ → ℕ → Bool
 pair_asked set clear colon a b state detail =
     cond colon

@@ -21,7 +21,7 @@ rising_rest [] r = tt
 rising_rest (s ∷ ss) r = r.2
 
 module _ (tilde : Bool) where
-  -- `withKeysym` for a number with its marks
+  -- `with_keysym` for a number with its marks
   abbrev inserted : ℕ → List ℕ → List ℕ
   inserted c [] = c ∷ []
   inserted c (s ∷ ss) =

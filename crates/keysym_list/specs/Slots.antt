@@ -1,4 +1,4 @@
--- The keysyms of an event in four slots, with one more: what src/lib.rt computes. proofs/Same shows that it is `withKeysym` of
+-- The keysyms of an event in four slots, with one more: what src/lib.rt computes. proofs/Same shows that it is `with_keysym` of
 -- the rules.
 use Rattle.std.specs.Prelude.{ℕ, ◌+◌, ◌<◌, Bool, cond, not, ◌||◌, List, eqb, ltb, length}
 use Rattle.model.specs.Limits.{keysyms_of_event_limit}

@@ -89,7 +89,7 @@ already_merged = 17
 abbrev pub bad_modifier_map : ℕ
 bad_modifier_map = 18
 
--- ---- The order of the checks (that of compiling, which goes by lines, is `compileOutcome` of Compiling)
+-- ---- The order of the checks (that of compiling, which goes by lines, is `compile_outcome` of Compiling)
 
 pub record Check : Type 0 where
   pub applies : Bool

@@ -1,4 +1,4 @@
--- `noStateMeets` is exact. The state that has every bit that is not asked clear meets the test if any state does.
+-- `no_state_meets` is exact. The state that has every bit that is not asked clear meets the test if any state does.
 use Prim.Native.Nat.{ℕ, ◌+◌, ◌<◌}
 use native.Mathlib.Omega.{arith}
 use mathlib.Core.Path.{◌≡◌, refl, sym, ap, ap₂, ◌∙◌}

@@ -1,5 +1,5 @@
 -- Number 8 of document 01, "no 13-bit modifier state meets the event's test", in those words, and the claim that the
--- definition that decides it, `noStateMeets`, is exact.
+-- definition that decides it, `no_state_meets`, is exact.
 use Rattle.std.specs.Prelude.{ℕ, ◌<◌, ◌≡◌, Bool, true, false, ◌↔◌}
 use Rattle.model.specs.Modifiers.{state_meets, no_state_meets}
 

@@ -26,7 +26,7 @@ use Rattle.roundtrip.specs.RoundTrip.{CameFrom}
 
 -- ---- What a text has
 
--- production n of a text as the grammar reads it; that there is one reading is `oneText` of grammar's Exact
+-- production n of a text as the grammar reads it; that there is one reading is `one_text` of grammar's Exact
 pub record TextHas (text : List ℕ) (n : ℕ) (line : Derived) : Type 0 where
   pub directive : Directive
   pub lines : List Derived

@@ -42,14 +42,14 @@ pub text_length-n-requires : goal.text_length-n-requires
 text_length-n-requires c =
     let t : whole c.args.table.now ≡ true = sym c.whole.ensures ∙ c.if-not-whole.false in
     let g : first_length_in c.args.table.now ≤ length c.args.first.now = omega (arith, c.first_length.ensures, c.if-first-first_length.false) in
-    let h : second_length_in c.args.table.now ≤ length c.args.second.now = omega (arith, c.second_length.ensures, c.if-second-second_length.false) in
+    let h : second_length_in c.args.table.now ≤ length c.args.second.now = omega (arith, c.second_length.ensures) in
     record { is_whole = t; first_long = g; second_long = h }
 
 pub returns-then-out-n : goal.returns-then-out-n
 returns-then-out-n c =
     let t : whole c.args.table.now ≡ true = sym c.whole.ensures ∙ c.if-not-whole.false in
     let g : first_length_in c.args.table.now ≤ length c.args.first.now = omega (arith, c.first_length.ensures, c.if-first-first_length.false) in
-    let h : second_length_in c.args.table.now ≤ length c.args.second.now = omega (arith, c.second_length.ensures, c.if-second-second_length.false) in
+    let h : second_length_in c.args.table.now ≤ length c.args.second.now = omega (arith, c.second_length.ensures) in
     let o = short_output_lem c.args.table.now c.args.first.now c.args.second.now c.args.out.now c.if-table-lt-TABLE_LENGTH.false (both_long c.args.table.now c.args.first.now c.args.second.now t g h) (omega (arith, c.text_length-n.ensures.0, c.if-out-n.true)) in
     record { answer = o.answer; bytes = o.bytes; number = o.number; length = o.length; bounded = omega arith }
 
@@ -57,13 +57,13 @@ pub put_productions-requires : goal.put_productions-requires
 put_productions-requires c =
     let t : whole c.args.table.now ≡ true = sym c.whole.ensures ∙ c.if-not-whole.false in
     let g : first_length_in c.args.table.now ≤ length c.args.first.now = omega (arith, c.first_length.ensures, c.if-first-first_length.false) in
-    let h : second_length_in c.args.table.now ≤ length c.args.second.now = omega (arith, c.second_length.ensures, c.if-second-second_length.false) in
+    let h : second_length_in c.args.table.now ≤ length c.args.second.now = omega (arith, c.second_length.ensures) in
     record { is_whole = t; first_long = g; second_long = h }
 
 pub returns : goal.returns
 returns c =
     let t : whole c.args.table.now ≡ true = sym c.whole.ensures ∙ c.if-not-whole.false in
     let g : first_length_in c.args.table.now ≤ length c.args.first.now = omega (arith, c.first_length.ensures, c.if-first-first_length.false) in
-    let h : second_length_in c.args.table.now ≤ length c.args.second.now = omega (arith, c.second_length.ensures, c.if-second-second_length.false) in
+    let h : second_length_in c.args.table.now ≤ length c.args.second.now = omega (arith, c.second_length.ensures) in
     let o = accepted c.args.table.now c.args.first.now c.args.second.now c.args.out.now c.text_length-n.result c.put_productions.result c.put_productions.new.out c.if-table-lt-TABLE_LENGTH.false (both_long c.args.table.now c.args.first.now c.args.second.now t g h) c.text_length-n.ensures.0 c.if-out-n.false c.put_productions.ensures.0 in
     record { answer = o.answer; bytes = o.bytes; number = o.number; length = o.length; bounded = c.text_length-n.ensures.1 }
