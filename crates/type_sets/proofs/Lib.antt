@@ -1,0 +1,3 @@
+pub mod TypeMask
+pub mod Joined
+pub mod Gathered

@@ -1,0 +1,20 @@
+-- `type_sets::all_codes` meets its contract.
+use native.Mathlib.Omega.{arith}
+use native.Mathlib.Nat.{zero-add}
+use mathlib.Core.Path.{◌≡◌, ◌∙◌}
+use Rattle.type_sets.specs.Scan.{code_at, code_bit}
+use Rattle.type_sets.proofs.Joined.{joined_none, joined_more}
+use borrow.Author.Rules.{rules}
+use Rattle.type_sets.proofs.all_codes.Goals as goal
+
+pub loop-i-init : goal.loop-i-init
+loop-i-init c = (search rules, (search rules, search rules), joined_none _ 0)
+
+pub loop-i-preserved : goal.loop-i-preserved
+unfolding code_bit code_at
+loop-i-preserved c = (search rules, (search rules, search rules), rw (joined_more, zero-add, ← c.loop-i.invariant.2, c.code_bit-codes.ensures, c.word_at.ensures))
+
+pub returns : goal.returns
+returns c =
+    let e : c.loop-i.i ≡ c.args.n = omega arith in
+    c.loop-i.invariant.2 ∙ rw e

@@ -1,0 +1,2 @@
+pub mod TypeSet
+pub mod Scan

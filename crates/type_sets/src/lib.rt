@@ -1,0 +1,119 @@
+// R-5: the set of event types that a table names, expansion included, as a mask: bit c stands for code c. It is gathered by a scan
+// of the events; a table does not keep it.
+#![tactic(auto)]
+
+ghost use Rattle.std.specs.Prelude.{◌≡◌, true, cond, ◌%◌, ◌^◌, ◌≤◌, eqb, length};
+ghost use Rattle.tables.specs.Layout.{table_length};
+ghost use Rattle.tables.specs.Reading.{decode};
+ghost use Rattle.tables.specs.Whole.{whole};
+ghost use Rattle.type_sets.specs.TypeSet.{type_set};
+ghost use Rattle.type_sets.specs.Scan.{joined, code_at, counted_at, code_bit, low_bit, pairs_of, gathered};
+
+use tables::places;
+
+// ---- Codes and counted codes, joined
+
+fn counted_code(code: u16, count: u16) -> u16
+    ensures { result ≡ cond (eqb count 1) 0 code }
+{
+    if count == 1 { 0 } else { code }
+}
+
+// The codes of some events, and those of the counted ones among them, each joined by `or`.
+#[derive(Clone, Copy)]
+pub struct CodeJoin {
+    pub all: u16,
+    pub counted: u16,
+}
+
+// No early exit, and numbers of 16 bits, so that the loop is compiled to vector instructions.
+fn join_codes(l: &[u8], n: usize) -> CodeJoin
+    requires { (table_length ≤ length l.now) × (n ≤ 256) }
+    ensures { (result.all ≡ joined (code_at l.now) 0 n) × (result.counted ≡ joined (counted_at l.now) 0 n) }
+{
+    let mut all: u16 = 0;
+    let mut counted: u16 = 0;
+    let mut i: usize = 0;
+    while i < n {
+        let code = words::word_at(l, places::CODES + i);
+        let count = words::word_at(l, places::COUNTS + i);
+        all = all | code;
+        counted = counted | counted_code(code, count);
+        i += 1;
+    }
+    CodeJoin {
+        all: all,
+        counted: counted,
+    }
+}
+
+// ---- Codes as bits
+
+fn low_bit(code: u16) -> u32
+    ensures { result ≡ 2 ^ (code % 32) }
+{
+    1u32 << (code % 32)
+}
+
+fn code_bit(code: u16) -> u64
+    ensures { result ≡ 2 ^ (code % 64) }
+{
+    1u64 << (code % 64)
+}
+
+// Codes below 32. In numbers of 32 bits the loop is compiled to vector instructions.
+fn low_codes(l: &[u8], n: usize) -> u32
+    requires { (table_length ≤ length l.now) × (n ≤ 256) }
+    ensures { result ≡ joined (low_bit l.now) 0 n }
+{
+    let mut codes: u32 = 0;
+    let mut i: usize = 0;
+    while i < n {
+        codes = codes | low_bit(words::word_at(l, places::CODES + i));
+        i += 1;
+    }
+    codes
+}
+
+// All codes: it takes more than twice as long.
+fn all_codes(l: &[u8], n: usize) -> u64
+    requires { (table_length ≤ length l.now) × (n ≤ 256) }
+    ensures { result ≡ joined (code_bit l.now) 0 n }
+{
+    let mut codes: u64 = 0;
+    let mut i: usize = 0;
+    while i < n {
+        codes = codes | code_bit(words::word_at(l, places::CODES + i));
+        i += 1;
+    }
+    codes
+}
+
+// ---- The set
+
+fn pairs_of(counted: u16) -> u64
+    ensures { result ≡ pairs_of counted }
+{
+    (12 * (counted / 2 % 2) + 48 * (counted / 4 % 2)) as u64
+}
+
+// The types of the first n events.
+pub fn gather(l: &[u8], n: usize) -> u64
+    requires { (table_length ≤ length l.now) × (n ≤ 256) }
+    ensures { result ≡ gathered l.now n }
+{
+    let joined = join_codes(l, n);
+    let pairs = pairs_of(joined.counted);
+    if joined.all < 32 {
+        return (low_codes(l, n) as u64) | pairs;
+    }
+    all_codes(l, n) | pairs
+}
+
+// The types that a whole table names.
+pub fn types_of(table: &[u8]) -> u64
+    requires { whole table.now ≡ true }
+    ensures { result ≡ type_set (decode table.now).productions }
+{
+    gather(table, tables::read::event_count(table))
+}
