@@ -1,7 +1,7 @@
 /*
  * Glykorant: translation tables for X, from text to selected calls.
  *
- * Link with libcapi.a, which `rt staticlib capi` writes to target/staticlib.
+ * Link with libcapi.a, which `tools/build` writes to target/staticlib.
  * Every function is proved to meet its contract in crates/capi for all bytes
  * that may be lent, refused or not; no function allocates, and none keeps a
  * pointer or any other state of its own.

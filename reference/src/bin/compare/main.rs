@@ -32,6 +32,6 @@ fn main() -> ExitCode {
 
 #[cfg(not(archive))]
 fn main() -> ExitCode {
-    eprintln!("the proved library's archive is not there: run 'rt staticlib capi' first");
+    eprintln!("the proved library's archive is not there: run 'tools/build' first");
     ExitCode::FAILURE
 }
