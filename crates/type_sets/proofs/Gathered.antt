@@ -21,7 +21,7 @@ use Rattle.fields.proofs.TableFacts.{EntryFacts, TableFacts}
 use Rattle.types.specs.Types.{any_below, other_code, has_either}
 use Rattle.types.proofs.TypeLaws.{either_type}
 use Rattle.type_sets.specs.TypeSet.{names_type, type_set}
-use Rattle.type_sets.specs.Scan.{joined, code_at, counted_at, code_bit, low_bit, pairs_of, gathered}
+use Rattle.type_sets.specs.Scan.{masks_joined, code_at, counted_at, code_bit, low_bit, pairs_of, types_gathered}
 use Rattle.type_sets.proofs.TypeMask.{mask_below_lt, bit_mask_below}
 use Rattle.type_sets.proofs.Joined.{bit_joined, joined_below, joined_same, joined_map, joined_each}
 
@@ -193,7 +193,7 @@ module _ (l : List ℕ) (f : TableFacts l) where
       ∙ words_have (event_entry l i).code (event_entry l i).count c e.code_low e.count_low e.counted)
 
   -- codes that are all below 32 have the same bits in 32 as in 64
-  low_same : ltb (joined (code_at l) 0 n) 32 ≡ true → joined (low_bit l) 0 n ≡ joined (code_bit l) 0 n
+  low_same : ltb (masks_joined (code_at l) 0 n) 32 ≡ true → masks_joined (low_bit l) 0 n ≡ masks_joined (code_bit l) 0 n
   unfolding low_bit code_bit
   low_same q = joined_same (low_bit l) (code_bit l) 0 n (λ i h. same i h)
     where
@@ -204,7 +204,7 @@ module _ (l : List ℕ) (f : TableFacts l) where
           let c : code_at l (0 + i) % 64 ≡ code_at l (0 + i) = mod-eq_of_lt (omega arith) in
           rw (a, c)
 
-  codes_are : (b : Bool) → ltb (joined (code_at l) 0 n) 32 ≡ b → cond b (joined (low_bit l) 0 n) (joined (code_bit l) 0 n) ≡ joined (code_bit l) 0 n
+  codes_are : (b : Bool) → ltb (masks_joined (code_at l) 0 n) 32 ≡ b → cond b (masks_joined (low_bit l) 0 n) (masks_joined (code_bit l) 0 n) ≡ masks_joined (code_bit l) 0 n
   codes_are true q = low_same q
   codes_are false q = refl
 
@@ -219,19 +219,19 @@ module _ (l : List ℕ) (f : TableFacts l) where
       rw (zero-add, e.code_word, e.count_word)
       (pairs_added (event_entry l i).code (event_entry l i).count e.code_low e.count_low e.counted)
 
-  pairs_are : pairs_of (joined (counted_at l) 0 n) ≡ joined pair_at 0 n
+  pairs_are : pairs_of (masks_joined (counted_at l) 0 n) ≡ masks_joined pair_at 0 n
   pairs_are =
       joined_map pairs_of pairs_none pairs_join (counted_at l) 0 n
       ∙ joined_same (λ i. pairs_of (counted_at l i)) pair_at 0 n (λ i h. pair_at_lem i h)
 
-  gathered_is : gathered l n ≡ bit_or (joined (code_bit l) 0 n) (joined pair_at 0 n)
-  unfolding gathered
-  gathered_is = ap₂ bit_or (codes_are (ltb (joined (code_at l) 0 n) 32) refl) pairs_are
+  gathered_is : types_gathered l n ≡ bit_or (masks_joined (code_bit l) 0 n) (masks_joined pair_at 0 n)
+  unfolding types_gathered
+  gathered_is = ap₂ bit_or (codes_are (ltb (masks_joined (code_at l) 0 n) 32) refl) pairs_are
 
-  bits : (c : ℕ) → bit c (gathered l n) ≡ names_type (decode l).productions c
+  bits : (c : ℕ) → bit c (types_gathered l n) ≡ names_type (decode l).productions c
   bits c =
       ap (bit c) gathered_is
-      ∙ bit_or_lem c (joined (code_bit l) 0 n) (joined pair_at 0 n)
+      ∙ bit_or_lem c (masks_joined (code_bit l) 0 n) (masks_joined pair_at 0 n)
       ∙ ap₂ ◌||◌ (bit_joined (code_bit l) c n) (bit_joined pair_at c n)
       ∙ either_below (λ i. bit c (code_bit l i)) (λ i. bit c (pair_at i)) n
       ∙ same_below (λ i. bit c (code_bit l i) || bit c (pair_at i)) (has_either l c (other_code c)) n (λ i h. event_has c i h)
@@ -246,16 +246,16 @@ module _ (l : List ℕ) (f : TableFacts l) where
   pair_below : (i : ℕ) → pair_at i < 2 ^ 35
   pair_below i = let b = pairs_below (word_at l (codes_at + i)) (word_at l (counts_at + i)) in omega arith
 
-  gathered_below : gathered l n < 2 ^ 35
+  gathered_below : types_gathered l n < 2 ^ 35
   gathered_below =
       rw gathered_is
-      (or_lt 35 (joined (code_bit l) 0 n) (joined pair_at 0 n)
+      (or_lt 35 (masks_joined (code_bit l) 0 n) (masks_joined pair_at 0 n)
       (joined_below (code_bit l) 0 35 n (λ i h. rw zero-add (code_below i h)))
       (joined_below pair_at 0 35 n (λ i h. pair_below (0 + i))))
 
   -- the scan gives the set
-  pub gathered_types : gathered l (event_total l) ≡ type_set (decode l).productions
+  pub gathered_types : types_gathered l (event_total l) ≡ type_set (decode l).productions
   unfolding type_set
   gathered_types =
-      same_bits 35 (gathered l n) (type_set (decode l).productions) gathered_below (mask_below_lt 35 (names_type (decode l).productions))
+      same_bits 35 (types_gathered l n) (type_set (decode l).productions) gathered_below (mask_below_lt 35 (names_type (decode l).productions))
       (λ c h. bits c ∙ sym (bit_mask_below 35 (names_type (decode l).productions) c h))

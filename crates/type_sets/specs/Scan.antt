@@ -5,9 +5,9 @@ use Rattle.words.specs.Words.{word_at}
 use Rattle.tables.specs.Layout.{codes_at, counts_at}
 
 -- masks over a run of numbers, joined
-unfoldable pub joined : (ℕ → ℕ) → ℕ → ℕ → ℕ
-joined f s zero = 0
-joined f s (suc n) = bit_or (joined f s n) (f (s + n))
+unfoldable pub masks_joined : (ℕ → ℕ) → ℕ → ℕ → ℕ
+masks_joined f s zero = 0
+masks_joined f s (suc n) = bit_or (masks_joined f s n) (f (s + n))
 
 -- the code of event i
 unfoldable pub code_at : List ℕ → ℕ → ℕ
@@ -30,8 +30,8 @@ unfoldable pub pairs_of : ℕ → ℕ
 pairs_of counted = 12 * (counted / 2 % 2) + 48 * (counted / 4 % 2)
 
 -- the set of the first n events
-unfoldable pub gathered : List ℕ → ℕ → ℕ
-gathered l n =
+unfoldable pub types_gathered : List ℕ → ℕ → ℕ
+types_gathered l n =
     bit_or
-    (cond (ltb (joined (code_at l) 0 n) 32) (joined (low_bit l) 0 n) (joined (code_bit l) 0 n))
-    (pairs_of (joined (counted_at l) 0 n))
+    (cond (ltb (masks_joined (code_at l) 0 n) 32) (masks_joined (low_bit l) 0 n) (masks_joined (code_bit l) 0 n))
+    (pairs_of (masks_joined (counted_at l) 0 n))

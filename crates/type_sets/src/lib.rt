@@ -7,7 +7,7 @@ ghost use Rattle.tables.specs.Layout.{table_length};
 ghost use Rattle.tables.specs.Reading.{decode};
 ghost use Rattle.tables.specs.Whole.{whole};
 ghost use Rattle.type_sets.specs.TypeSet.{type_set};
-ghost use Rattle.type_sets.specs.Scan.{joined, code_at, counted_at, code_bit, low_bit, pairs_of, gathered};
+ghost use Rattle.type_sets.specs.Scan.{masks_joined, code_at, counted_at, code_bit, low_bit, pairs_of, types_gathered};
 
 use tables::places;
 
@@ -29,7 +29,7 @@ pub struct CodeJoin {
 // No early exit, and numbers of 16 bits, so that the loop is compiled to vector instructions.
 fn join_codes(l: &[u8], n: usize) -> CodeJoin
     requires { (table_length ≤ length l.now) × (n ≤ 256) }
-    ensures { (result.all ≡ joined (code_at l.now) 0 n) × (result.counted ≡ joined (counted_at l.now) 0 n) }
+    ensures { (result.all ≡ masks_joined (code_at l.now) 0 n) × (result.counted ≡ masks_joined (counted_at l.now) 0 n) }
 {
     let mut all: u16 = 0;
     let mut counted: u16 = 0;
@@ -64,7 +64,7 @@ fn code_bit(code: u16) -> u64
 // Codes below 32. In numbers of 32 bits the loop is compiled to vector instructions.
 fn low_codes(l: &[u8], n: usize) -> u32
     requires { (table_length ≤ length l.now) × (n ≤ 256) }
-    ensures { result ≡ joined (low_bit l.now) 0 n }
+    ensures { result ≡ masks_joined (low_bit l.now) 0 n }
 {
     let mut codes: u32 = 0;
     let mut i: usize = 0;
@@ -75,10 +75,10 @@ fn low_codes(l: &[u8], n: usize) -> u32
     codes
 }
 
-// All codes: it takes more than twice as long.
+// All codes, in numbers of 64 bits.
 fn all_codes(l: &[u8], n: usize) -> u64
     requires { (table_length ≤ length l.now) × (n ≤ 256) }
-    ensures { result ≡ joined (code_bit l.now) 0 n }
+    ensures { result ≡ masks_joined (code_bit l.now) 0 n }
 {
     let mut codes: u64 = 0;
     let mut i: usize = 0;
@@ -100,7 +100,7 @@ fn pairs_of(counted: u16) -> u64
 // The types of the first n events.
 pub fn gather(l: &[u8], n: usize) -> u64
     requires { (table_length ≤ length l.now) × (n ≤ 256) }
-    ensures { result ≡ gathered l.now n }
+    ensures { result ≡ types_gathered l.now n }
 {
     let joined = join_codes(l, n);
     let pairs = pairs_of(joined.counted);

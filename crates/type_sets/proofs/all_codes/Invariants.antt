@@ -3,11 +3,11 @@ use Prim.Native.Nat.{◌-◌, ◌≤◌}
 use mathlib.Core.Path.{◌≡◌}
 use lib.ListN.{length}
 use Rattle.tables.specs.Layout.{table_length}
-use Rattle.type_sets.specs.Scan.{joined, code_bit}
+use Rattle.type_sets.specs.Scan.{masks_joined, code_bit}
 use Rattle.type_sets.proofs.all_codes.Given as goal
 
 abbrev pub invariant-loop-i : goal.invariant-loop-i
-invariant-loop-i l = (l.i ≤ l.n) × ((table_length ≤ length l.l) × (l.n ≤ 256)) × (l.codes ≡ joined (code_bit l.l) 0 l.i)
+invariant-loop-i l = (l.i ≤ l.n) × ((table_length ≤ length l.l) × (l.n ≤ 256)) × (l.codes ≡ masks_joined (code_bit l.l) 0 l.i)
 
 abbrev pub decreases-loop-i : goal.decreases-loop-i
 decreases-loop-i l = l.n - l.i

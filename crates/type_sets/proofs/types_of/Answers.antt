@@ -1,7 +1,7 @@
 -- `type_sets::types_of` meets its contract.
 use native.Mathlib.Omega.{arith}
 use mathlib.Core.Path.{ap, ◌∙◌}
-use Rattle.type_sets.specs.Scan.{gathered}
+use Rattle.type_sets.specs.Scan.{types_gathered}
 use Rattle.fields.proofs.TableFacts.{table_facts}
 use Rattle.type_sets.proofs.Gathered.{gathered_types}
 use Rattle.type_sets.proofs.types_of.Goals as goal
@@ -17,4 +17,4 @@ gather-requires c =
 pub returns : goal.returns
 returns c =
     let l = c.args.table.now in
-    c.gather.ensures ∙ ap (gathered l) c.event_count.ensures ∙ gathered_types l (table_facts l c.requires)
+    c.gather.ensures ∙ ap (types_gathered l) c.event_count.ensures ∙ gathered_types l (table_facts l c.requires)
