@@ -103,11 +103,8 @@ module _ (t : Table) (within : passes_limit t.productions ≡ false) (setting : 
 
     -- 13
     pub refused_record : (n : ℕ) → record_read c.bytes c.order ≡ RecordRead.Refused n
-        → (m : ℕ) → m ≡ record_number (record_read c.bytes c.order)
-        → refused_with m s ≡ step_answer (stepped t setting (kept_of s) c)
-    refused_record n r m q =
-        let e = is_bad_lem c n r in
-        ap (λ (j : ℕ). refused_with j s) (q ∙ ap record_number (read_bad c e)) ∙ refused_by e
+        → refused_with bad_record s ≡ step_answer (stepped t setting (kept_of s) c)
+    refused_record n r = refused_by (is_bad_lem c n r)
 
     module _ (x : Event) (r : record_read c.bytes c.order ≡ RecordRead.Event x) where
       by_type : (b : Bool) → any (has_type x.code) t.productions ≡ b

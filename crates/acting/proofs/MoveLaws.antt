@@ -5,12 +5,11 @@ use native.Mathlib.Numerals.{add-one}
 use borrow.Author.Tests.{ltb-true, ltb-false}
 use mathlib.Core.Path.{◌≡◌, refl, sym, ap, ap₂, ◌∙◌}
 use mathlib.Core.Bool.{Bool, true, false, cond, not, ◌&&◌, false≢true}
-use mathlib.Core.Option.{Option}
+use Rattle.std.specs.Prelude.{Option}
 use mathlib.Core.List.{List, [], ◌∷◌, ◌++◌}
 use lib.Dec.{eqb, ltb}
-use lib.ListN.{length, get_or, take, drop, replicate}
-use lib.Seq.{take-suc, drop-append-le, length-take-le, length-slice, slice_empty, slice-cons, get_or-take, take-take, take-length}
-use Rattle.words.specs.Words.{zeros}
+use lib.ListN.{length, get_or, take, drop}
+use lib.Seq.{length-take-le, length-slice, slice_empty, slice-cons, get_or-take, take-take, take-length}
 use Rattle.words.proofs.Bools.{and_right, and_both}
 use Rattle.records.specs.Ranges.{EventRanges}
 use Rattle.model.specs.Codes.{is_motion}
@@ -28,7 +27,7 @@ use Rattle.states.specs.declared.State.{State}
 use Rattle.acting.specs.declared.Answer.{Answer}
 use Rattle.acting.specs.declared.moves.Left.{Left}
 use Rattle.walk.specs.declared.Passed.{Passed}
-use Rattle.states.specs.State.{zero_event, slots_of, put_slot, events_bytes, in_slots, kept_of, state_with, state_keeping}
+use Rattle.states.specs.State.{zero_event, slots_of, put_slot, in_slots, kept_of, state_with, state_keeping}
 use Rattle.resolving.specs.Gathering.{MapsReady}
 use Rattle.follow.specs.Follow.{WalkReady}
 use Rattle.walk.specs.Walk.{passed, passed_in}
@@ -37,33 +36,6 @@ use Rattle.acting.specs.Act.{step_answer}
 use Rattle.states.proofs.SlotLaws.{length_slots, length_put, put_more, put_last, take_put}
 use Rattle.states.proofs.StateLaws.{StateFacts, InRanges, ranges_more, slots_kept, length_kept, kept_ranges, kept_bounded}
 use Rattle.walk.proofs.PassLaws.{some_reads, chosen_by, passed_prefix, passed_chosen}
-
--- ---- Slots
-
-pub no_slots : replicate 200 0 ≡ in_slots []
-unfolding in_slots events_bytes zeros
-no_slots = refl
-
-module _ (events : List Event) (from : ℕ) where
-  one_more : (i : ℕ) → from ≤ i → i < length events
-      → drop from (take (i + 1) events) ≡ drop from (take i events) ++ (get_or events i zero_event ∷ [])
-  one_more i h m =
-      rw (add-one, take-suc events i zero_event m)
-      (drop-append-le from (take i events) (get_or events i zero_event ∷ []) (omega (arith, length-take-le i events (omega arith))))
-
-  pub shift_more : (bytes : List ℕ) (i : ℕ) (x : Event) → from ≤ i → i < length events → length events ≡ 25
-      → bytes ≡ in_slots (drop from (take i events)) → x ≡ get_or events i zero_event
-      → put_slot bytes (i - from) x ≡ in_slots (drop from (take (i + 1) events))
-  shift_more bytes i x h m l e g =
-      let n : length (drop from (take i events)) ≡ i - from = length-slice from i events (omega arith) in
-      let b : length (drop from (take i events)) < 25 = omega arith in
-      ap₂ (λ (s : List ℕ) (y : Event). put_slot s (i - from) y) e g
-      ∙ ap (λ (k : ℕ). put_slot (in_slots (drop from (take i events))) k (get_or events i zero_event)) (sym n)
-      ∙ put_more (drop from (take i events)) (get_or events i zero_event) b
-      ∙ ap in_slots (sym (one_more i h m))
-
-  pub shift_none : in_slots [] ≡ in_slots (drop from (take from events))
-  shift_none = ap in_slots (sym (slice_empty from events))
 
 -- ---- What is left
 
@@ -275,15 +247,6 @@ module _ (t : Table) (setting : Setting) where
             ≡ answer_of t setting (record { events = cond b rest []; selected = 0; is_open = false })
         by true q = kept_answer used (record { events = rest; selected = 0; is_open = false }) u refl refl q
         by false q = kept_answer to fresh (omega arith) (slice_empty to events) refl q
-
-    -- what is kept ends where they end
-    pub from_within : (from : ℕ) → used ≤ to → from ≡ cond (ltb at to) at (cond moving used to) → from ≤ to
-    from_within from u e = rw e (go (ltb at to) moving)
-      where
-        go : (a b : Bool) → cond a at (cond b used to) ≤ to
-        go true b = within
-        go false true = u
-        go false false = omega arith
 
     pub restart_is : (from : ℕ) (bytes : List ℕ) → used ≤ to → from ≡ cond (ltb at to) at (cond moving used to)
         → bytes ≡ in_slots (drop from (take to events))

@@ -2,7 +2,6 @@
 #![tactic(auto)]
 
 ghost use Rattle.std.specs.Prelude.{◌≡◌, true};
-ghost use Rattle.model.specs.Numbers.{record_number};
 ghost use Rattle.machine.specs.Kept.{stepped};
 ghost use Rattle.tables.specs.Reading.{decode};
 ghost use Rattle.tables.specs.Whole.{whole};
@@ -15,6 +14,9 @@ mod moves;
 
 use model::answers::{Matched, RecordRead};
 use states::State;
+
+// The one number that refuses a record.
+const BAD_RECORD: u8 = 13;
 
 // What a call answers, and the state for the next call.
 #[derive(Clone, Copy)]
@@ -33,25 +35,14 @@ pub fn refused(number: u8, old: State) -> Answer
     }
 }
 
-// The number that a record is refused with.
-fn number_of(read: RecordRead) -> u8
-    ensures { result ≡ record_number read }
-{
-    match read {
-        RecordRead::Event(_) => 0,
-        RecordRead::Refused(n) => n,
-    }
-}
-
 // One call, past the checks of what is lent: it relies on them, so that calls on many records or many windows check the table
 // once.
 pub fn act(table: &[u8], maps: &[u8], limit: u32, state: State, record: &[u8], order: u8) -> Answer
     requires { ((whole table.now ≡ true) × MapsReady maps.now) × (whole_state state ≡ true) }
     ensures { result ≡ step_answer (stepped (decode table.now) (lent_setting maps.now limit) (kept_of state) (match_call «record».now order)) }
 {
-    let read = records::read_record(record, order);
-    let RecordRead::Event(x) = read else {
-        return refused(number_of(read), state);
+    let RecordRead::Event(x) = records::read_record(record, order) else {
+        return refused(BAD_RECORD, state);
     };
     if !types::has_type(table, x.code) {
         return Answer {

@@ -35,16 +35,10 @@ fn replaces(events: &[u8], kept: usize, x: Event) -> bool
     requires { (length events.now ≡ 200) × (kept ≤ 24) }
     ensures { result ≡ is_motion x.code && ends_in moves (take kept (slots_of events.now)) }
 {
-    if x.code != slots::MOTION {
-        return false;
-    }
-    if kept == 0 {
-        return false;
-    }
-    slots::motion_at(events, kept - 1)
+    x.code == slots::MOTION && kept != 0 && slots::motion_at(events, kept - 1)
 }
 
-// A mark at the event that is replaced falls back by one.
+// A mark at the event that is replaced falls back by one. (No `min`: a mark past it, which no state has, stays.)
 fn fallen_back(place: usize, mark: usize) -> usize
     requires { 0 < place }
     ensures { result ≡ falls_back place mark }
@@ -76,7 +70,7 @@ fn left_for(events: &[u8], kept: usize, selected: usize, open: bool, x: Event) -
         return Left {
             kept,
             selected,
-            open: true,
+            open,
         };
     }
     Left {
@@ -86,16 +80,15 @@ fn left_for(events: &[u8], kept: usize, selected: usize, open: bool, x: Event) -
     }
 }
 
-// Events from..to, moved to the first slots; the others are zero.
+// Events from..to, moved to the first slots; the others are zero. (`copy_from_slice` of their bytes took longer at each key that
+// misses.)
 fn shifted(events: &[u8], from: usize, to: usize) -> [u8; 200]
     requires { (length events.now ≡ 200) × (from ≤ to) × (to ≤ 25) }
     ensures { result ≡ in_slots (drop from (take to (slots_of events.now))) }
 {
     let mut slots = [0u8; 200];
-    let mut i = from;
-    while i < to {
+    for i in from..to {
         slots::put_event(&mut slots, i - from, slots::event_at(events, i));
-        i += 1;
     }
     slots
 }
@@ -104,42 +97,19 @@ fn shifted(events: &[u8], from: usize, to: usize) -> [u8; 200]
 fn answered(found: Passed, kept: usize, selected: usize, open: bool, events: [u8; 200]) -> Answer
     ensures { result ≡ answer_with found kept selected «open» events }
 {
-    match found {
-        Passed::Chosen(p) => Answer {
-            matched: Matched::Selected(p),
-            state: State {
-                kept,
-                selected: kept,
-                open,
-                events,
-            },
-        },
-        Passed::Prefix => Answer {
-            matched: Matched::Heard,
-            state: State {
-                kept,
-                selected,
-                open,
-                events,
-            },
-        },
-        Passed::No => Answer {
-            matched: Matched::Heard,
-            state: State {
-                kept,
-                selected,
-                open,
-                events,
-            },
+    let (matched, selected) = match found {
+        Passed::Chosen(p) => (Matched::Selected(p), kept),
+        Passed::Prefix | Passed::No => (Matched::Heard, selected),
+    };
+    Answer {
+        matched,
+        state: State {
+            kept,
+            selected,
+            open,
+            events,
         },
     }
-}
-
-// How many of the first events of a context no new start may take: the old start, and those up to the last selection.
-fn used_up(selected: usize) -> usize
-    ensures { result ≡ max 1 selected }
-{
-    if selected < 1 { 1 } else { selected }
 }
 
 // The first event that is kept, where `at` is the new start or, with none, `to`: with no context open a motion keeps those from
@@ -167,11 +137,9 @@ fn restart(
     ensures { result ≡ restarted (decode table.now) (lent_setting maps.now limit) moving (drop used (take to (slots_of events.now))) }
 {
     let start = walk::first_start(table, maps, limit, events, used, to);
-    let at = start.at;
-    let found = start.found;
-    let from = kept_from(at, used, to, moving);
+    let from = kept_from(start.at, used, to, moving);
     let slots = shifted(events, from, to);
-    answered(found, to - from, 0, at < to, slots)
+    answered(start.found, to - from, 0, start.at < to, slots)
 }
 
 // An event that is heard. It takes the place after what is left, also where that is the place of the event that it replaces.
@@ -181,17 +149,23 @@ pub fn heard(table: &[u8], maps: &[u8], limit: u32, state: State, x: Event) -> A
 {
     let mut events = state.events;
     let left = left_for(&events, state.kept, state.selected, state.open, x);
-    let kept = left.kept;
-    let selected = left.selected;
-    slots::put_event(&mut events, kept, x);
-    let to = kept + 1;
+    slots::put_event(&mut events, left.kept, x);
+    let to = left.kept + 1;
     let moving = x.code == slots::MOTION;
     if !left.open {
         return restart(table, maps, limit, &events, 0, to, moving);
     }
     match walk::pass(table, maps, limit, &events, 0, to) {
-        Passed::No => restart(table, maps, limit, &events, used_up(selected), to, moving),
-        Passed::Prefix => answered(Passed::Prefix, to, selected, true, events),
-        Passed::Chosen(p) => answered(Passed::Chosen(p), to, selected, true, events),
+        // No new start may take the old one, or an event up to the last selection.
+        Passed::No => restart(
+            table,
+            maps,
+            limit,
+            &events,
+            left.selected.max(1),
+            to,
+            moving,
+        ),
+        found => answered(found, to, left.selected, true, events),
     }
 }

@@ -1,1 +1,1 @@
-pub mod ReadyFacts
+pub mod LentFacts

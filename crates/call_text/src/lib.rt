@@ -1,105 +1,79 @@
 // Calls as they are written, their names and parameters copied from the text that each came from.
-#![tactic(auto)]
+#![tactic(auto, using(table_check::proofs::WholeFacts::facts_of_whole))]
 
-ghost use Rattle.std.specs.Prelude.{cond, ◌+◌, ◌≤◌, ◌<◌, length};
+ghost use Rattle.std.specs.Prelude.{◌≡◌, true, cond, ◌++◌, ◌+◌, ◌≤◌, ◌<◌, length, take, drop};
 ghost use Rattle.words.specs.Runs.{run};
 ghost use Rattle.model.specs.Lists.{bytes};
-ghost use Rattle.model.specs.Asking.{part_bytes};
 ghost use Rattle.model.specs.Canonical.{joined_by, each, parameter_text, call_text};
-ghost use Rattle.tables.specs.Reading.{call_total, call_entry, mark_entry, parameter_entry, first_parameter, call_parameters};
+ghost use Rattle.tables.specs.Reading.{first_length_in, second_length_in, call_total, call_entry, mark_entry, parameter_entry, first_parameter, call_parameters};
+ghost use Rattle.tables.specs.Whole.{whole};
 ghost use Rattle.writing.specs.Overlay.{Put};
-ghost use Rattle.call_text.specs.Ready.{WriteReady};
 
 use model::scan::Span;
+use tables::read;
 use writing::bytes;
 
-// A part of the second text where the mark is set, of the first otherwise.
-fn put_span(out: &mut [u8], at: usize, first: &[u8], second: &[u8], mark: bool, s: Span) -> usize
-    requires { (at ≤ 8900000000) × (s.start + s.len ≤ cond mark (length second.now) (length first.now)) × (s.len ≤ 8192) }
-    ensures { (Put out.old out.new at result (part_bytes first.now second.now mark s)) × (result ≤ at + 8192) }
-{
-    let start = s.start;
-    let len = s.len;
-    if mark {
-        return bytes::put_part(out, at, second, start, len);
+// A whole table with its texts, each at least as long as the length that the table keeps.
+#[derive(Clone, Copy)]
+pub struct Lent<'a> {
+    pub table: &'a [u8],
+    pub first: &'a [u8],
+    pub second: &'a [u8],
+    pub ghost is_whole: { whole table.now ≡ true },
+    pub ghost first_long: { first_length_in table.now ≤ length first.now },
+    pub ghost second_long: { second_length_in table.now ≤ length second.now },
+}
+
+impl<'a> Lent<'a> {
+    // The text that a call's mark names: the second where it is set, the first otherwise.
+    fn text(&self, mark: bool) -> &'a [u8]
+        ensures { result.now ≡ cond mark self.now.second.now self.now.first.now }
+    {
+        if mark { self.second } else { self.first }
     }
-    bytes::put_part(out, at, first, start, len)
 }
 
 // Parameters are always quoted.
-fn put_parameter(
-    out: &mut [u8],
-    at: usize,
-    first: &[u8],
-    second: &[u8],
-    mark: bool,
-    s: Span,
-) -> usize
-    requires { (at ≤ 8000000000) × (s.start + s.len ≤ cond mark (length second.now) (length first.now)) × (s.len ≤ 8192) }
-    ensures { (Put out.old out.new at result (parameter_text first.now second.now mark s)) × (result ≤ at + 8194) }
+fn put_parameter(out: &mut [u8], at: usize, text: &[u8], s: Span) -> usize
+    requires { (at ≤ 8000000000) × (s.start + s.len ≤ length text.now) × (s.len ≤ 8192) }
+    ensures { (Put out.old out.new at result (bytes "\"" ++ (take s.len (drop s.start text.now) ++ bytes "\""))) × (result ≤ at + 8194) }
 {
     let mut next = bytes::put_byte(out, at, b'"');
-    next = put_span(out, next, first, second, mark, s);
+    next = bytes::put_part(out, next, text, s.start, s.len);
     bytes::put_byte(out, next, b'"')
 }
 
 // The parameters of call i.
-fn put_parameters(
-    out: &mut [u8],
-    at: usize,
-    l: &[u8],
-    first: &[u8],
-    second: &[u8],
-    i: usize,
-) -> usize
-    requires { (at ≤ 7000000000) × WriteReady l.now first.now second.now × (i < call_total l.now) }
-    ensures { (Put out.old out.new at result (joined_by (bytes ",") (each (parameter_text first.now second.now (mark_entry l.now i)) (run (parameter_entry l.now) (first_parameter l.now i) (call_parameters l.now i))))) × (result ≤ at + 65560) }
+fn put_parameters(out: &mut [u8], at: usize, lent: &Lent, i: usize) -> usize
+    requires { (at ≤ 7000000000) × (i < call_total lent.now.table.now) }
+    ensures { (Put out.old out.new at result (joined_by (bytes ",") (each (parameter_text lent.now.first.now lent.now.second.now (mark_entry lent.now.table.now i)) (run (parameter_entry lent.now.table.now) (first_parameter lent.now.table.now i) (call_parameters lent.now.table.now i))))) × (result ≤ at + 65560) }
 {
-    let mark = tables::read::call_mark(l, i);
-    let from = tables::read::parameters_from(l, i);
-    let n = tables::read::call_parameters(l, i);
-    let mut next = at;
-    let mut k: usize = 0;
-    while k < n {
-        let s = tables::read::parameter_span(l, from + k);
-        next = bytes::put_separator(out, next, k, b',');
-        next = put_parameter(out, next, first, second, mark, s);
-        k += 1;
-    }
-    next
+    let text = lent.text(read::call_mark(lent.table, i));
+    let from = read::parameters_from(lent.table, i);
+    let n = read::call_parameters(lent.table, i);
+    bytes::put_joined(out, at, n, b',', |out, at, k| {
+        put_parameter(out, at, text, read::parameter_span(lent.table, from + k))
+    })
 }
 
-fn put_call(out: &mut [u8], at: usize, l: &[u8], first: &[u8], second: &[u8], i: usize) -> usize
-    requires { (at ≤ 6000000000) × WriteReady l.now first.now second.now × (i < call_total l.now) }
-    ensures { (Put out.old out.new at result (call_text first.now second.now (call_entry l.now i))) × (result ≤ at + 74000) }
+fn put_call(out: &mut [u8], at: usize, lent: &Lent, i: usize) -> usize
+    requires { (at ≤ 6000000000) × (i < call_total lent.now.table.now) }
+    ensures { (Put out.old out.new at result (call_text lent.now.first.now lent.now.second.now (call_entry lent.now.table.now i))) × (result ≤ at + 74000) }
 {
-    let mark = tables::read::call_mark(l, i);
-    let name = tables::read::call_name(l, i);
-    let mut next = put_span(out, at, first, second, mark, name);
+    let text = lent.text(read::call_mark(lent.table, i));
+    let name = read::call_name(lent.table, i);
+    let mut next = bytes::put_part(out, at, text, name.start, name.len);
     next = bytes::put_byte(out, next, b'(');
-    next = put_parameters(out, next, l, first, second, i);
+    next = put_parameters(out, next, lent, i);
     bytes::put_byte(out, next, b')')
 }
 
 // n calls, from call `from` on.
-pub fn put_calls(
-    out: &mut [u8],
-    at: usize,
-    l: &[u8],
-    first: &[u8],
-    second: &[u8],
-    from: usize,
-    n: usize,
-) -> usize
-    requires { (at ≤ 5000000000) × WriteReady l.now first.now second.now × (from + n ≤ call_total l.now) × (n ≤ 8) }
-    ensures { (Put out.old out.new at result (joined_by (bytes " ") (each (call_text first.now second.now) (run (call_entry l.now) from n)))) × (result ≤ at + 600000) }
+pub fn put_calls(out: &mut [u8], at: usize, lent: &Lent, from: usize, n: usize) -> usize
+    requires { (at ≤ 5000000000) × (from + n ≤ call_total lent.now.table.now) × (n ≤ 8) }
+    ensures { (Put out.old out.new at result (joined_by (bytes " ") (each (call_text lent.now.first.now lent.now.second.now) (run (call_entry lent.now.table.now) from n)))) × (result ≤ at + 600000) }
 {
-    let mut next = at;
-    let mut k: usize = 0;
-    while k < n {
-        next = bytes::put_separator(out, next, k, b' ');
-        next = put_call(out, next, l, first, second, from + k);
-        k += 1;
-    }
-    next
+    bytes::put_joined(out, at, n, b' ', |out, at, k| {
+        put_call(out, at, lent, from + k)
+    })
 }

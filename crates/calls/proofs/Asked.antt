@@ -5,9 +5,9 @@ use native.Mathlib.Nat.{zero-add, add-zero, add-suc, suc-add}
 use mathlib.Core.Path.{◌≡◌, refl, sym, ap, ◌∙◌}
 use mathlib.Core.List.{List}
 use mathlib.Core.Bool.{Bool, true, false, cond}
-use mathlib.Core.Option.{Option, none, some}
+use Rattle.std.specs.Prelude.{Option, None, Some}
 use lib.Dec.{leb}
-use borrow.Author.Tests.{leb-true, leb-false, le-leb, lt-leb}
+use borrow.Author.Tests.{leb-true, leb-false}
 use Rattle.words.specs.Runs.{run}
 use Rattle.words.proofs.RunLaws.{length_run}
 use Rattle.model.specs.Tables.{Call, Production}
@@ -17,21 +17,21 @@ use Rattle.model.specs.declared.answers.Counted.{Counted}
 use Rattle.model.specs.declared.answers.Located.{Located}
 use Rattle.tables.specs.Reading.{production_total, production_calls, first_call, production_entry, call_total, mark_entry, name_entry, call_parameters, first_parameter, parameter_entry, call_entry, decode}
 use Rattle.tables.specs.Whole.{whole}
+use Rattle.table_check.proofs.WholeFacts.{facts_of_whole}
 use Rattle.table_check.proofs.Exact.{whole_facts}
-use Rattle.table_check.proofs.CheckFacts.{CheckFacts, calls_within_lem, parameters_within_lem}
-use Rattle.calls.specs.declared.Place.{Place}
+use Rattle.table_check.proofs.CheckFacts.{CheckFacts, calls_within_lem}
 use Rattle.calls.specs.Places.{place_of}
 
 -- ---- An element of a run
 
 module _ {A : Type 0} where
-  at_run : (f : ℕ → A) (s n i : ℕ) → i < n → at (run f s n) i ≡ some (f (s + i))
+  at_run : (f : ℕ → A) (s n i : ℕ) → i < n → at (run f s n) i ≡ Some (f (s + i))
   unfolding run
   at_run f s zero i h = absurd (omega arith)
   at_run f s (suc n) zero h = rw add-zero
-  at_run f s (suc n) (suc i) h = at_run f (suc s) n i (omega arith) ∙ ap (λ (k : ℕ). some (f k)) (suc-add s i ∙ sym (add-suc s i))
+  at_run f s (suc n) (suc i) h = at_run f (suc s) n i (omega arith) ∙ ap (λ (k : ℕ). Some (f k)) (suc-add s i ∙ sym (add-suc s i))
 
-  at_past : (f : ℕ → A) (s n i : ℕ) → n ≤ i → at (run f s n) i ≡ none
+  at_past : (f : ℕ → A) (s n i : ℕ) → n ≤ i → at (run f s n) i ≡ None
   unfolding run
   at_past f s zero i h = refl
   at_past f s (suc n) zero h = absurd (omega arith)
@@ -44,11 +44,11 @@ module _ (l : List ℕ) where
   unfolding asking.production_count decode
   productions_here = ap Counted.Accepted (length_run (production_entry l) 0 (production_total l))
 
-  production_here : (p : ℕ) → p < production_total l → asked_production (decode l) p ≡ some (production_entry l p)
+  production_here : (p : ℕ) → p < production_total l → asked_production (decode l) p ≡ Some (production_entry l p)
   unfolding asked_production decode
-  production_here p h = at_run (production_entry l) 0 (production_total l) p h ∙ ap (λ (k : ℕ). some (production_entry l k)) (zero-add p)
+  production_here p h = at_run (production_entry l) 0 (production_total l) p h ∙ ap (λ (k : ℕ). Some (production_entry l k)) (zero-add p)
 
-  production_past : (p : ℕ) → production_total l ≤ p → asked_production (decode l) p ≡ none
+  production_past : (p : ℕ) → production_total l ≤ p → asked_production (decode l) p ≡ None
   unfolding asked_production decode
   production_past p h = at_past (production_entry l) 0 (production_total l) p h
 
@@ -62,22 +62,22 @@ module _ (l : List ℕ) where
 
   -- ---- The place of a call
 
-  call_here : (p c : ℕ) → p < production_total l → c < production_calls l p → asked_call (decode l) p c ≡ some (call_entry l (first_call l p + c))
+  call_here : (p c : ℕ) → p < production_total l → c < production_calls l p → asked_call (decode l) p c ≡ Some (call_entry l (first_call l p + c))
   unfolding asked_call production_entry
   call_here p c h q = ap (λ (o : Option Production). call_in o c) (production_here p h) ∙ at_run (call_entry l) (first_call l p) (production_calls l p) c q
 
-  call_past : (p c : ℕ) → p < production_total l → production_calls l p ≤ c → asked_call (decode l) p c ≡ none
+  call_past : (p c : ℕ) → p < production_total l → production_calls l p ≤ c → asked_call (decode l) p c ≡ None
   unfolding asked_call production_entry
   call_past p c h q = ap (λ (o : Option Production). call_in o c) (production_here p h) ∙ at_past (call_entry l) (first_call l p) (production_calls l p) c q
 
-  no_production_lem : (p c : ℕ) → production_total l ≤ p → asked_call (decode l) p c ≡ none
+  no_production_lem : (p c : ℕ) → production_total l ≤ p → asked_call (decode l) p c ≡ None
   unfolding asked_call
   no_production_lem p c h = ap (λ (o : Option Production). call_in o c) (production_past p h)
 
   -- the call at a place
-  abbrev pub call_there : Place → Option Call
-  call_there (Place.At i) = some (call_entry l i)
-  call_there Place.Nothing = none
+  abbrev pub call_there : Option ℕ → Option Call
+  call_there (Some i) = Some (call_entry l i)
+  call_there None = None
 
   -- `place_of` is the place of the call that is asked for
   pub call_there_lem : (p c : ℕ) → asked_call (decode l) p c ≡ call_there (place_of l p c)
@@ -85,27 +85,15 @@ module _ (l : List ℕ) where
   call_there_lem p c = go (leb (production_total l) p) (leb (production_calls l p) c) refl refl
     where
       go : (a b : Bool) → leb (production_total l) p ≡ a → leb (production_calls l p) c ≡ b
-          → asked_call (decode l) p c ≡ call_there (cond a Place.Nothing (cond b Place.Nothing (Place.At (first_call l p + c))))
+          → asked_call (decode l) p c ≡ call_there (cond a None (cond b None (Some (first_call l p + c))))
       go true b e f = no_production_lem p c (leb-true (production_total l) p e)
       go false true e f = call_past p c (leb-false (production_total l) p e) (leb-true (production_calls l p) c f)
       go false false e f = call_here p c (leb-false (production_total l) p e) (leb-false (production_calls l p) c f)
 
-  pub no_place_production : (p c : ℕ) → production_total l ≤ p → Place.Nothing ≡ place_of l p c
-  unfolding place_of
-  no_place_production p c h = rw (le-leb (production_total l) p h)
-
-  pub no_place_call : (p c : ℕ) → p < production_total l → production_calls l p ≤ c → Place.Nothing ≡ place_of l p c
-  unfolding place_of
-  no_place_call p c h q = rw (lt-leb (production_total l) p h, le-leb (production_calls l p) c q)
-
-  pub place_found : (p c : ℕ) → p < production_total l → c < production_calls l p → Place.At (first_call l p + c) ≡ place_of l p c
-  unfolding place_of
-  place_found p c h q = rw (lt-leb (production_total l) p h, lt-leb (production_calls l p) c q)
-
   -- it is one of the calls of the table
-  abbrev Among : Place → Type 0
-  Among (Place.At i) = i < call_total l
-  Among Place.Nothing = Unit
+  abbrev Among : Option ℕ → Type 0
+  Among (Some i) = i < call_total l
+  Among None = Unit
 
   place_among : (p c : ℕ) → whole l ≡ true → Among (place_of l p c)
   unfolding place_of production_total production_calls first_call call_total
@@ -115,7 +103,7 @@ module _ (l : List ℕ) where
       facts = whole_facts l w
 
       go : (a b : Bool) → leb (production_total l) p ≡ a → leb (production_calls l p) c ≡ b
-          → Among (cond a Place.Nothing (cond b Place.Nothing (Place.At (first_call l p + c))))
+          → Among (cond a None (cond b None (Some (first_call l p + c))))
       go true b e f = tt
       go false true e f = tt
       go false false e f =
@@ -123,63 +111,47 @@ module _ (l : List ℕ) where
           let q = leb-false (production_calls l p) c f in
           omega (arith, calls_within_lem l facts.sums p h)
 
-  pub place_below : (p c i : ℕ) → whole l ≡ true → place_of l p c ≡ Place.At i → i < call_total l
+  pub place_below : (p c i : ℕ) → whole l ≡ true → place_of l p c ≡ Some i → i < call_total l
   place_below p c i w e = rw e at (place_among p c w)
 
   -- ---- Parameters of a call
 
-  pub parameters_here : (p c i : ℕ) → place_of l p c ≡ Place.At i → asking.parameter_count (decode l) p c ≡ Counted.Accepted (call_parameters l i)
+  pub parameters_here : (p c i : ℕ) → place_of l p c ≡ Some i → asking.parameter_count (decode l) p c ≡ Counted.Accepted (call_parameters l i)
   unfolding asking.parameter_count call_entry
   parameters_here p c i e =
       ap parameters_asked (call_there_lem p c ∙ ap call_there e) ∙ ap Counted.Accepted (length_run (parameter_entry l) (first_parameter l i) (call_parameters l i))
 
-  pub parameters_past_lem : (p c : ℕ) → place_of l p c ≡ Place.Nothing → asking.parameter_count (decode l) p c ≡ Counted.Refused 16
+  pub parameters_past_lem : (p c : ℕ) → place_of l p c ≡ None → asking.parameter_count (decode l) p c ≡ Counted.Refused 16
   unfolding asking.parameter_count
   parameters_past_lem p c e = ap parameters_asked (call_there_lem p c ∙ ap call_there e)
 
-  pub parameter_below : (i k : ℕ) → whole l ≡ true → i < call_total l → k < call_parameters l i → first_parameter l i + k < 256
-  unfolding call_total call_parameters first_parameter
-  parameter_below i k w h q =
-      let facts : CheckFacts l = whole_facts l w in
-      omega (arith, parameters_within_lem l facts.sums i h, facts.header.parameters)
-
-  -- ---- Limits
-
-  pub productions_below : whole l ≡ true → production_total l ≤ 64
-  unfolding production_total
-  productions_below w = (whole_facts l w).header.productions
-
-  pub calls_below : whole l ≡ true → call_total l ≤ 128
-  unfolding call_total
-  calls_below w = (whole_facts l w).header.calls
-
-  pub called_below : (p c i : ℕ) → whole l ≡ true → place_of l p c ≡ Place.At i → i < 128
-  called_below p c i w e = omega (arith, place_below p c i w e, calls_below w)
-
   -- ---- Where
 
-  pub name_here : (p c i : ℕ) → place_of l p c ≡ Place.At i → located_name (decode l) p c ≡ located (mark_entry l i) (name_entry l i)
+  pub name_here : (p c i : ℕ) → place_of l p c ≡ Some i → located_name (decode l) p c ≡ located (mark_entry l i) (name_entry l i)
   unfolding located_name call_entry
   name_here p c i e = ap name_asked (call_there_lem p c ∙ ap call_there e)
 
-  pub name_past : (p c : ℕ) → place_of l p c ≡ Place.Nothing → located_name (decode l) p c ≡ Located.Refused 16
+  pub name_past : (p c : ℕ) → place_of l p c ≡ None → located_name (decode l) p c ≡ Located.Refused 16
   unfolding located_name
   name_past p c e = ap name_asked (call_there_lem p c ∙ ap call_there e)
 
-  pub parameter_here : (p c i k : ℕ) → place_of l p c ≡ Place.At i → k < call_parameters l i
+  pub parameter_here : (p c i k : ℕ) → place_of l p c ≡ Some i → k < call_parameters l i
       → located_parameter (decode l) p c k ≡ located (mark_entry l i) (parameter_entry l (first_parameter l i + k))
   unfolding located_parameter call_entry
   parameter_here p c i k e h =
       ap (λ (o : Option Call). parameter_of o k) (call_there_lem p c ∙ ap call_there e)
       ∙ ap (span_of (mark_entry l i)) (at_run (parameter_entry l) (first_parameter l i) (call_parameters l i) k h)
 
-  pub parameter_past : (p c i k : ℕ) → place_of l p c ≡ Place.At i → call_parameters l i ≤ k
+  pub parameter_past : (p c i k : ℕ) → place_of l p c ≡ Some i → call_parameters l i ≤ k
       → located_parameter (decode l) p c k ≡ Located.Refused 16
   unfolding located_parameter call_entry
   parameter_past p c i k e h =
       ap (λ (o : Option Call). parameter_of o k) (call_there_lem p c ∙ ap call_there e)
       ∙ ap (span_of (mark_entry l i)) (at_past (parameter_entry l) (first_parameter l i) (call_parameters l i) k h)
 
-  pub parameter_none : (p c k : ℕ) → place_of l p c ≡ Place.Nothing → located_parameter (decode l) p c k ≡ Located.Refused 16
+  pub parameter_none : (p c k : ℕ) → place_of l p c ≡ None → located_parameter (decode l) p c k ≡ Located.Refused 16
   unfolding located_parameter
   parameter_none p c k e = ap (λ (o : Option Call). parameter_of o k) (call_there_lem p c ∙ ap call_there e)
+
+-- what is asked of a table, by its words
+pub ruleset asked_laws = (facts_of_whole, productions_here, calls_here, calls_past, parameters_here, parameters_past_lem, name_here, name_past, parameter_here, parameter_past, parameter_none)

@@ -2,4 +2,3 @@ pub mod Orders
 pub mod Asked
 pub mod Located
 pub mod Answered
-pub mod PartLaws

@@ -4,7 +4,7 @@ use native.Mathlib.Omega.{arith}
 use mathlib.Core.Path.{◌≡◌, refl}
 use mathlib.Core.List.{List, [], ◌∷◌}
 use mathlib.Core.Bool.{Bool, true, false}
-use mathlib.Core.Option.{Option, none, some}
+use Rattle.std.specs.Prelude.{Option, None, Some}
 use lib.Dec.{ltb}
 use lib.ListN.{length}
 use borrow.Author.Tests.{leb-true, ltb-false}
@@ -27,8 +27,8 @@ use Rattle.calls.proofs.Orders.{lent_whole, lent_texts, answer_within}
 -- ---- What holds of every element holds of the one that is asked for
 
 abbrev Each : {A : Type 0} → (A → Bool) → Option A → Type 0
-Each test none = Unit
-Each test (some x) = test x ≡ true
+Each test None = Unit
+Each test (Some x) = test x ≡ true
 
 module _ {A : Type 0} where
   each_at : (test : A → Bool) (xs : List A) (i : ℕ) → all test xs ≡ true → Each test (at xs i)
@@ -46,8 +46,8 @@ all_of_flat test (p ∷ ps) e =
     rw (a, b)
 
 each_call : (test : Call → Bool) (o : Option Production) (c : ℕ) → Each (λ (p : Production). all test p.calls) o → Each test (call_in o c)
-each_call test none c e = tt
-each_call test (some p) c e = each_at test p.calls c e
+each_call test None c e = tt
+each_call test (Some p) c e = each_at test p.calls c e
 
 module _ (t : Table) (fit : fitting t ≡ true) where
   asked_in_range : (p c : ℕ) → Each (call_in_range t) (asked_call t p c)
@@ -66,8 +66,8 @@ module _ (t : Table) (fit : fitting t ≡ true) where
         omega arith
 
     name_of_within : (o : Option Call) → Each (call_in_range t) o → PartWithin first second (name_asked o)
-    name_of_within none e = tt
-    name_of_within (some k) e = located_within k.second k.name (call_facts t k e).name
+    name_of_within None e = tt
+    name_of_within (Some k) e = located_within k.second k.name (call_facts t k e).name
 
     pub name_within_lem : (p c : ℕ) → PartWithin first second (located_name t p c)
     unfolding located_name
@@ -75,12 +75,12 @@ module _ (t : Table) (fit : fitting t ≡ true) where
 
     span_of_within : (m : Bool) (o : Option Span) → Each (span_in_text (text_length t m)) o → PartWithin first second (span_of m o)
     unfolding span_in_text
-    span_of_within m none e = tt
-    span_of_within m (some s) e = located_within m s (leb-true (s.start + s.len) (text_length t m) e)
+    span_of_within m None e = tt
+    span_of_within m (Some s) e = located_within m s (leb-true (s.start + s.len) (text_length t m) e)
 
     parameter_of_within : (o : Option Call) (k : ℕ) → Each (call_in_range t) o → PartWithin first second (parameter_of o k)
-    parameter_of_within none k e = tt
-    parameter_of_within (some c) k e =
+    parameter_of_within None k e = tt
+    parameter_of_within (Some c) k e =
         span_of_within c.second (at c.parameters k) (each_at (span_in_text (text_length t c.second)) c.parameters k (call_facts t c e).parameters)
 
     pub parameter_within_lem : (p c k : ℕ) → PartWithin first second (located_parameter t p c k)

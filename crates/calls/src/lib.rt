@@ -1,11 +1,11 @@
 // How many productions, calls and parameters a table has, and where a call's name or a parameter stands, as a part of the
 // text. Any bytes may be lent: what is no table is refused.
-#![tactic(auto)]
+#![tactic(auto, using(crate::proofs::Asked::asked_laws), unfolding(crate::specs::Refusals::table_refusal, crate::specs::Refusals::lent_refusal, crate::specs::Answers::count_answer, crate::specs::Answers::count_number, crate::specs::Answers::place_answer, crate::specs::Answers::place_number))]
 
-ghost use Rattle.std.specs.Prelude.{◌≡◌, true};
+ghost use Rattle.std.specs.Prelude.{◌≡◌, ◌<◌, true, IfSome};
 ghost use Rattle.model.specs.Numbers.{counted_number, located_number};
 ghost use Rattle.model.specs.Asking.{located, production_count, call_count, parameter_count, located_name, located_parameter};
-ghost use Rattle.tables.specs.Reading.{decode};
+ghost use Rattle.tables.specs.Reading.{call_total, decode};
 ghost use Rattle.tables.specs.Whole.{whole};
 ghost use Rattle.calls.specs.Refusals.{table_refusal, lent_refusal};
 ghost use Rattle.calls.specs.Places.{place_of};
@@ -14,13 +14,7 @@ ghost use Rattle.calls.specs.Parts.{PartWithin, IsPart};
 
 use model::answers::{Counted, Located};
 use model::scan::Span;
-
-// The place of a call among all calls of the table.
-#[derive(Clone, Copy)]
-pub enum Place {
-    At(usize),
-    Nothing,
-}
+use tables::read;
 
 // ---- Refusals
 
@@ -38,19 +32,15 @@ fn table_refusal(table: &[u8]) -> u8
 }
 
 // The same of a table and of its texts: 12 also where a text is shorter than the length that the table keeps.
+#[tactic(auto, using(crate::proofs::Asked::asked_laws), unfolding(crate::specs::Refusals::table_refusal, crate::specs::Refusals::lent_refusal, tables::specs::Reading::decode))]
 fn lent_refusal(table: &[u8], first: &[u8], second: &[u8]) -> u8
     ensures { result ≡ lent_refusal table.now first.now second.now }
 {
-    if table.len() < tables::TABLE_LENGTH {
-        return 1;
+    let refusal = table_refusal(table);
+    if refusal != 0 {
+        return refusal;
     }
-    if !table_check::whole(table) {
-        return 12;
-    }
-    if first.len() < tables::read::first_length(table) {
-        return 12;
-    }
-    if second.len() < tables::read::second_length(table) {
+    if first.len() < read::first_length(table) || second.len() < read::second_length(table) {
         return 12;
     }
     0
@@ -67,7 +57,7 @@ pub fn productions(table: &[u8]) -> Counted
     if refusal != 0 {
         return Counted::Refused(refusal);
     }
-    Counted::Accepted(tables::read::production_count(table))
+    Counted::Accepted(read::production_count(table))
 }
 
 pub fn call_count(table: &[u8], production: usize) -> Counted
@@ -79,24 +69,26 @@ pub fn call_count(table: &[u8], production: usize) -> Counted
     if refusal != 0 {
         return Counted::Refused(refusal);
     }
-    if tables::read::production_count(table) <= production {
+    if read::production_count(table) <= production {
         return Counted::Refused(16);
     }
-    Counted::Accepted(tables::read::production_calls(table, production))
+    Counted::Accepted(read::production_calls(table, production))
 }
 
-// A production's first call stands past the calls of all productions before it.
-fn find_call(table: &[u8], production: usize, call: usize) -> Place
+// The place of a call among all calls of the table: a production's first call stands past the calls of all productions before it.
+#[tactic(auto, using(crate::proofs::Asked::asked_laws), unfolding(crate::specs::Places::place_of))]
+fn find_call(table: &[u8], production: usize, call: usize) -> Option<usize>
     requires { whole table.now ≡ true }
-    ensures { result ≡ place_of table.now production call }
+    ensures place { result ≡ place_of table.now production call }
+    ensures among { IfSome result (λ i. i < call_total table.now) }
 {
-    if tables::read::production_count(table) <= production {
-        return Place::Nothing;
+    if read::production_count(table) <= production {
+        return None;
     }
-    if tables::read::production_calls(table, production) <= call {
-        return Place::Nothing;
+    if read::production_calls(table, production) <= call {
+        return None;
     }
-    Place::At(tables::read::calls_from(table, production) + call)
+    Some(read::calls_from(table, production) + call)
 }
 
 pub fn parameter_count(table: &[u8], production: usize, call: usize) -> Counted
@@ -108,10 +100,9 @@ pub fn parameter_count(table: &[u8], production: usize, call: usize) -> Counted
     if refusal != 0 {
         return Counted::Refused(refusal);
     }
-    let place = find_call(table, production, call);
-    match place {
-        Place::Nothing => Counted::Refused(16),
-        Place::At(i) => Counted::Accepted(tables::read::call_parameters(table, i)),
+    match find_call(table, production, call) {
+        None => Counted::Refused(16),
+        Some(i) => Counted::Accepted(read::call_parameters(table, i)),
     }
 }
 
@@ -120,16 +111,11 @@ pub fn parameter_count(table: &[u8], production: usize, call: usize) -> Counted
 fn in_text(second: bool, s: Span) -> Located
     ensures { result ≡ located second s }
 {
+    let Span { start, len } = s;
     if second {
-        Located::Second {
-            start: s.start,
-            len: s.len,
-        }
+        Located::Second { start, len }
     } else {
-        Located::First {
-            start: s.start,
-            len: s.len,
-        }
+        Located::First { start, len }
     }
 }
 
@@ -149,13 +135,9 @@ pub fn locate_name(
     if refusal != 0 {
         return Located::Refused(refusal);
     }
-    let place = find_call(table, production, call);
-    match place {
-        Place::Nothing => Located::Refused(16),
-        Place::At(i) => in_text(
-            tables::read::call_mark(table, i),
-            tables::read::call_name(table, i),
-        ),
+    match find_call(table, production, call) {
+        None => Located::Refused(16),
+        Some(i) => in_text(read::call_mark(table, i), read::call_name(table, i)),
     }
 }
 
@@ -176,25 +158,20 @@ pub fn locate_parameter(
     if refusal != 0 {
         return Located::Refused(refusal);
     }
-    let place = find_call(table, production, call);
-    match place {
-        Place::Nothing => Located::Refused(16),
-        Place::At(i) => {
-            if tables::read::call_parameters(table, i) <= parameter {
-                return Located::Refused(16);
-            }
-            let k = tables::read::parameters_from(table, i) + parameter;
-            in_text(
-                tables::read::call_mark(table, i),
-                tables::read::parameter_span(table, k),
-            )
-        }
+    let Some(i) = find_call(table, production, call) else {
+        return Located::Refused(16);
+    };
+    if read::call_parameters(table, i) <= parameter {
+        return Located::Refused(16);
     }
+    let k = read::parameters_from(table, i) + parameter;
+    in_text(read::call_mark(table, i), read::parameter_span(table, k))
 }
 
 // ---- The part itself
 
 // A part of one of two texts; the empty part at the start of the first for a refusal.
+#[tactic(auto, unfolding(crate::specs::Parts::part_of))]
 fn part<'a>(first: &'a [u8], second: &'a [u8], place: Located) -> &'a [u8]
     requires { PartWithin first.now second.now place }
     ensures { IsPart first.entry second.entry result place }
@@ -202,11 +179,12 @@ fn part<'a>(first: &'a [u8], second: &'a [u8], place: Located) -> &'a [u8]
     match place {
         Located::First { start, len } => &first[start..start + len],
         Located::Second { start, len } => &second[start..start + len],
-        Located::Refused(_) => &first[0..0],
+        Located::Refused(_) => &first[..0],
     }
 }
 
 // The name of a call. `locate_name` gives the number.
+#[tactic(auto, using(crate::proofs::Located::name_answer_within))]
 pub fn name<'a>(
     table: &[u8],
     first: &'a [u8],
@@ -224,6 +202,7 @@ pub fn name<'a>(
 }
 
 // A parameter without its quotes. `locate_parameter` gives the number.
+#[tactic(auto, using(crate::proofs::Located::parameter_answer_within))]
 pub fn parameter<'a>(
     table: &[u8],
     first: &'a [u8],

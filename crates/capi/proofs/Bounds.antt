@@ -4,7 +4,7 @@ use native.Mathlib.Omega.{arith}
 use mathlib.Core.Path.{◌≡◌, refl}
 use mathlib.Core.List.{List, [], ◌∷◌, ◌++◌}
 use mathlib.Core.Bool.{Bool, true, false, not}
-use mathlib.Core.Option.{Option, none, some}
+use Rattle.std.specs.Prelude.{Option, None, Some}
 use lib.Dec.{leb, ltb}
 use lib.ListN.{length}
 use Rattle.words.specs.Words.{zeros}
@@ -26,7 +26,6 @@ use Rattle.words.proofs.Laws.{length_zeros}
 use Rattle.tables.proofs.Positions.{cond_both}
 use Rattle.table_check.proofs.WholeFacts.{facts_of_whole}
 use Rattle.tables.proofs.Theorems.{whole_holds}
-use Rattle.calls.specs.declared.Place.{Place}
 use Rattle.calls.specs.Places.{place_of}
 use Rattle.calls.specs.Parts.{PartWithin}
 use Rattle.calls.specs.Refusals.{is_short, table_broken, texts_short, lent_not_whole, table_refusal, lent_refusal}
@@ -42,13 +41,13 @@ place_at o = compiled_place (outcome_answer o)
 
 -- a place that is given is below n
 abbrev pub Below : ℕ → Option ℕ → Type 0
-Below n none = Unit
-Below n (some p) = p < n
+Below n None = Unit
+Below n (Some p) = p < n
 
 pub earliest_below : {A : Type 0} (test : A → Bool) (i n : ℕ) (l : List A) → i + length l ≤ n → Below n (earliest test i l)
 earliest_below test i n [] h = tt
 earliest_below test i n (x ∷ xs) h =
-    cond_both (Below n) (test x) (some i) (earliest test (suc i) xs) (λ _. omega arith) (λ _. earliest_below test (suc i) n xs (omega arith))
+    cond_both (Below n) (test x) (Some i) (earliest test (suc i) xs) (λ _. omega arith) (λ _. earliest_below test (suc i) n xs (omega arith))
 
 module _ (text : List ℕ) where
   Next : (ℕ → Directive → List Production → Outcome) → Type 0
@@ -68,8 +67,8 @@ module _ (text : List ℕ) where
 
   after_directive_lem : (at : ℕ) (d : Directive) (ps : List Production) (r : Option Directive) (rest : ℕ → Directive → List Production → Outcome) → at ≤ length text → Next rest
       → place_at (after_directive text at d ps r rest) ≤ length text
-  after_directive_lem at d ps (some e) rest h f = go_on_lem (line_end text at) e ps rest f
-  after_directive_lem at d ps none rest h f =
+  after_directive_lem at d ps (Some e) rest h f = go_on_lem (line_end text at) e ps rest f
+  after_directive_lem at d ps None rest h f =
       cond_both (λ (o : Outcome). place_at o ≤ length text) (is_blank_line (line_at text at)) (go_on text (line_end text at) d ps rest) (after_line text at d ps (line_outcome ps at (line_at text at)) rest)
       (λ _. go_on_lem (line_end text at) d ps rest f)
       (λ _. after_line_lem at d ps (line_outcome ps at (line_at text at)) rest h f)
@@ -82,8 +81,8 @@ module _ (text : List ℕ) where
 
   bytes_place : (r : Option ℕ) → Below (length text) r → place_at (after_bytes text r) ≤ length text
   unfolding lines_of
-  bytes_place (some place) f = omega arith
-  bytes_place none f = lines_place (length text + 1) 0 Directive.Replace [] (omega arith)
+  bytes_place (Some place) f = omega arith
+  bytes_place None f = lines_place (length text + 1) 0 Directive.Replace [] (omega arith)
 
   bad_byte_within : Below (length text) (first_bad_byte text)
   unfolding first_bad_byte
@@ -128,10 +127,10 @@ module _ (table : List ℕ) where
   pub calls_small : (p : ℕ) → counted_count (calls_answer table p) ≤ 64
   calls_small p = count_small (asking.call_count (decode table) p) (λ w. calls_of p w (leb (production_total table) p) refl)
 
-  parameters_of : (p c : ℕ) → whole table ≡ true → (r : Place) → place_of table p c ≡ r → counted_count (asking.parameter_count (decode table) p c) ≤ 64
-  parameters_of p c w (Place.At i) e =
+  parameters_of : (p c : ℕ) → whole table ≡ true → (r : Option ℕ) → place_of table p c ≡ r → counted_count (asking.parameter_count (decode table) p c) ≤ 64
+  parameters_of p c w (Some i) e =
       rw (parameters_here table p c i e) (let k = (facts_of_whole table w).few_parameters i (place_below table p c i w e) in omega arith)
-  parameters_of p c w Place.Nothing e = rw (parameters_past_lem table p c e) (omega arith)
+  parameters_of p c w None e = rw (parameters_past_lem table p c e) (omega arith)
 
   pub parameters_small : (p c : ℕ) → counted_count (parameters_answer table p c) ≤ 64
   parameters_small p c = count_small (asking.parameter_count (decode table) p c) (λ w. parameters_of p c w (place_of table p c) refl)

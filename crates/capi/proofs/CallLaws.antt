@@ -5,7 +5,7 @@ use borrow.Author.Tests.{lt-ltb, ltb-true, ltb-false, eq-eqb, eqb-true}
 use mathlib.Core.Path.{◌≡◌, refl, sym, ap, ◌∙◌}
 use mathlib.Core.Bool.{Bool, true, false, not, false≢true}
 use mathlib.Core.List.{List}
-use mathlib.Core.Option.{Option, none, some}
+use Rattle.std.specs.Prelude.{Option, None, Some}
 use lib.Dec.{eqb, ltb}
 use lib.ListN.{length, drop}
 use lib.Seq.{drop_at}
@@ -39,7 +39,7 @@ use Rattle.capi.proofs.Matches.{left_dropped}
 use Rattle.capi.proofs.Demand.{Holds, given, answer_is, left_is, left_kept, given_whole, left_good}
 
 -- a refused call selects none
-selects_none : (a : Matched) → (matched_number a ≡ 0 → ⊥) → matched_selection a ≡ none
+selects_none : (a : Matched) → (matched_number a ≡ 0 → ⊥) → matched_selection a ≡ None
 selects_none (Matched.Refused n) f = refl
 selects_none Matched.Dropped f = absurd (f refl)
 selects_none Matched.Heard f = absurd (f refl)
@@ -58,8 +58,8 @@ Not14 a = matched_number a ≡ 14 → ⊥
 
 module _ (t : Table) (setting : Setting) where
   selection_not : (o : Option ℕ) → Not14 (selection t setting o)
-  selection_not none z = omega arith
-  selection_not (some p) z = omega arith
+  selection_not None z = omega arith
+  selection_not (Some p) z = omega arith
 
   event_not : (k : Kept Event) (x : Event) → Not14 (act t setting k (RecordRead.Event x)).answer
   event_not k x =

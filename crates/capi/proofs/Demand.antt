@@ -5,7 +5,7 @@ use borrow.Author.Tests.{le-ltb, ne_eqb}
 use mathlib.Core.Path.{◌≡◌, refl, sym, ap, ap₂, ◌∙◌}
 use mathlib.Core.Bool.{Bool, true, false, cond, false≢true}
 use mathlib.Core.List.{List, [], ◌∷◌, ◌++◌, map}
-use mathlib.Core.Option.{Option, none, some}
+use Rattle.std.specs.Prelude.{Option, None, Some}
 use lib.Dec.{eqb}
 use lib.ListN.{length, drop, length-append, length-drop}
 use Rattle.model.specs.Numbers.{matched_number, matched_selection}
@@ -56,8 +56,8 @@ module _ (table : List ℕ) (setting : Setting) (s : State) (w : whole_state s �
   Same k u = keeps u.answer ≡ true → u.next ≡ k
 
   selected_same : (t : Table) (o : Option ℕ) (k n : Kept Event) → Same k (record { answer = selection t setting o; next = n })
-  selected_same t none k n e = absurd (false≢true e)
-  selected_same t (some p) k n e = absurd (false≢true e)
+  selected_same t None k n e = absurd (false≢true e)
+  selected_same t (Some p) k n e = absurd (false≢true e)
 
   act_same : (t : Table) (k : Kept Event) (r : RecordRead) → Same k (act t setting k r)
   act_same t k (RecordRead.Refused n) = λ _. refl
@@ -189,7 +189,7 @@ told_selected p =
     let f : p + 1 - 1 ≡ p = omega arith in
     record {
       number = omega arith;
-      selection = ap (λ (n : ℕ). cond (eqb n 0) none (some (n - 1))) e ∙ rw (ne_eqb (p + 1) 0 (λ z. omega arith), f);
+      selection = ap (λ (n : ℕ). cond (eqb n 0) None (Some (n - 1))) e ∙ rw (ne_eqb (p + 1) 0 (λ z. omega arith), f);
     }
 
 told_heard : Told Matched.Heard
@@ -202,8 +202,8 @@ told_dropped = record { number = refl; selection = refl }
 
 module _ (t : Table) (setting : Setting) where
   told_selection : (o : Option ℕ) → Told (selection t setting o)
-  told_selection none = told_heard
-  told_selection (some p) = told_selected p
+  told_selection None = told_heard
+  told_selection (Some p) = told_selected p
 
   told_heard_list : (cs : List MatchCall) (es : List Event) → Told (named_heard t setting cs es)
   told_heard_list cs [] = told_dropped

@@ -5,7 +5,7 @@ use borrow.Author.Tests.{lt-ltb, le-ltb, eqb-true}
 use mathlib.Core.Path.{◌≡◌, sym, ap, subst, ◌∙◌}
 use mathlib.Core.Bool.{true}
 use mathlib.Core.List.{List}
-use mathlib.Core.Option.{Option, none, some}
+use Rattle.std.specs.Prelude.{Option, None, Some}
 use lib.Dec.{eqb}
 use lib.ListN.{length}
 use Rattle.words.specs.Words.{cleared}
@@ -124,12 +124,12 @@ module _ (table : List ℕ) (setting : Setting) (state bytes : List ℕ) (order 
 
 module _ (t : Table) (setting : Setting) (few : length t.productions ≤ 64) where
   selection_few : (o : Option ℕ) → Below 64 o → mark_of (selection t setting o) ≤ 64
-  selection_few none b = omega arith
-  selection_few (some p) b = omega arith
+  selection_few None b = omega arith
+  selection_few (Some p) b = omega arith
 
   chosen_few : (k : Kept Event) → Below 64 (chosen_in (reading_of t setting) k)
   chosen_few k =
-      cond_both (Below 64) k.is_open ((reading_of t setting).chosen k.events) none
+      cond_both (Below 64) k.is_open ((reading_of t setting).chosen k.events) None
       (λ _. earliest_below (is_whole_sequence setting k.events) 0 64 t.productions (omega arith)) (λ _. tt)
 
   act_few : (k : Kept Event) (r : RecordRead) → mark_of (act t setting k r).answer ≤ 64

@@ -1,51 +1,26 @@
 -- What the copies and stores of a state do to bytes.
-use Prim.Native.Nat.{ℕ, ◌+◌, ◌≤◌, ◌<◌}
+use Prim.Native.Nat.{ℕ, ◌+◌, ◌≤◌}
 use native.Mathlib.Omega.{arith}
-use native.Mathlib.Nat.{zero-add}
-use native.Mathlib.Numerals.{add-one}
 use mathlib.Core.Path.{◌≡◌, refl, sym, ap, ap₂, ◌∙◌}
 use mathlib.Core.List.{List, [], ◌∷◌, ◌++◌}
 use mathlib.Core.Bool.{Bool, true, false, cond}
 use lib.Dec.{eqb}
-use lib.ListN.{length, get_or, set, take, drop, length-drop}
-use lib.Seq.{paste, paste-zero, paste-suc, length-paste, get_or-drop, take_at, drop-append-add, drop-drop}
+use lib.ListN.{length, take, drop, replicate}
+use lib.Seq.{paste, take_at, drop-append-add, drop-drop}
 use mir.Val.{bool_byte}
 use Rattle.words.specs.Words.{word_bytes, word_at, put_word, zeros}
 use Rattle.words.proofs.Images.{length_bytes}
-use Rattle.words.proofs.Laws.{length_zeros}
 use Rattle.states.specs.declared.State.{State}
 use Rattle.capi.specs.State.{marks_of, store, marks_read, load_events, load}
-
--- ---- A copy, byte by byte
-
-module _ (d : List ℕ) (at : ℕ) (s : List ℕ) where
-  pub copy_more : (out : List ℕ) (i v : ℕ) → out ≡ paste d at s i → at + i < length d → i < length s → v ≡ get_or s i 0
-      → set out (at + i) v ≡ paste d at s (i + 1)
-  copy_more out i v e h k q =
-      ap₂ (λ (o : List ℕ) (b : ℕ). set o (at + i) b) e q ∙ paste-suc d at s i 0 h k ∙ ap (paste d at s) (sym (add-one i))
-
-  pub length_copied : (out : List ℕ) (i : ℕ) → out ≡ paste d at s i → at + i ≤ length d → i ≤ length s → length out ≡ length d
-  length_copied out i e h k = ap length e ∙ length-paste d at s i h k
 
 -- ---- Loading
 
 pub state_path : (a b : State) → a.kept ≡ b.kept → a.selected ≡ b.selected → a.«open» ≡ b.«open» → a.events ≡ b.events → a ≡ b
 state_path a b p q r t = λ i. record { kept = p i; selected = q i; «open» = r i; events = t i }
 
-pub no_events : (l : List ℕ) → zeros 200 ≡ paste (zeros 200) 0 (drop 8 l) 0
-no_events l = paste-zero (zeros 200) 0 (drop 8 l)
-
-pub event_more : (l events : List ℕ) (i : ℕ) → events ≡ paste (zeros 200) 0 (drop 8 l) i → i < 192 → 200 ≤ length l
-    → set events i (get_or l (8 + i) 0) ≡ paste (zeros 200) 0 (drop 8 l) (i + 1)
-event_more l events i e h k =
-    let b : 0 + i < length (zeros 200) = omega (arith, length_zeros 200) in
-    let f : i < length (drop 8 l) = omega (arith, length-drop 8 l) in
-    ap (λ (j : ℕ). set events j (get_or l (8 + i) 0)) (sym (zero-add i))
-    ∙ copy_more (zeros 200) 0 (drop 8 l) events i (get_or l (8 + i) 0) e b f (sym (get_or-drop 8 l i 0))
-
-pub events_loaded : (l : List ℕ) → paste (zeros 200) 0 (drop 8 l) 192 ≡ load_events l
+pub events_loaded : (l b : List ℕ) → b ≡ take 192 (drop 8 l) → b ++ drop 192 (replicate 200 0) ≡ load_events l
 unfolding load_events zeros
-events_loaded l = refl
+events_loaded l b e = rw e
 
 module _ (l : List ℕ) where
   pub kept_read : marks_read l ≡ true → word_at l 0 ≡ (load l).kept

@@ -2,8 +2,7 @@
 -- are lent bytes, and each call returns one number. `Demand3` and what it speaks of are in crates/model/specs/Demand and
 -- Selection; `matched_on`, `matched_word`, `state_left` and `fresh_bytes` are what the contracts of `tt_match` and `tt_fresh` say,
 -- for all input.
-use Rattle.std.specs.Prelude.{ℕ, ◌-◌, ◌/◌, ◌%◌, ◌≤◌, ◌≡◌, true, cond, List, [], ◌∷◌, map, eqb, length}
-use Rattle.std.proofs.Math.Option.{Option, none, some}
+use Rattle.std.specs.Prelude.{ℕ, ◌-◌, ◌/◌, ◌%◌, ◌≤◌, ◌≡◌, true, cond, List, [], ◌∷◌, map, eqb, length, Option, None, Some}
 use Rattle.model.specs.Numbers.{matched_number, matched_selection}
 use Rattle.model.specs.Setting.{Setting}
 use Rattle.model.specs.Tables.{Table}
@@ -20,7 +19,7 @@ abbrev pub word_number : ℕ → ℕ
 word_number word = word % 256
 
 abbrev pub word_selection : ℕ → Option ℕ
-word_selection word = cond (eqb (word / 256) 0) none (some (word / 256 - 1))
+word_selection word = cond (eqb (word / 256) 0) None (Some (word / 256 - 1))
 
 -- ---- Calls of `tt_match` on one table under one setting, from what `tt_fresh` leaves in lent bytes
 

@@ -1,7 +1,6 @@
 -- What loading and storing a state owe each other, for every state and all bytes, and what a call does to a state's bytes.
 -- Shown in proofs/StateLaws and proofs/CallLaws.
-use Rattle.std.specs.Prelude.{ℕ, ◌≤◌, ◌<◌, ◌≡◌, true, false, List, ◌++◌, length, get_or, drop}
-use Rattle.std.proofs.Math.Option.{none}
+use Rattle.std.specs.Prelude.{ℕ, ◌≤◌, ◌<◌, ◌≡◌, true, false, List, ◌++◌, length, get_or, drop, None}
 use Rattle.model.specs.Numbers.{state_not_whole, matched_number, matched_selection}
 use Rattle.model.specs.Setting.{Setting}
 use Rattle.model.specs.Resolving.{is_bad_map}
@@ -35,7 +34,7 @@ pub record CallLaws (table : List ℕ) (setting : Setting) (state bytes : List �
   -- "A refused matcher call keeps the state and selects none."
   pub refused :
       (matched_number (matched_on table setting state bytes order) ≡ 0 → ⊥)
-      → (matched_selection (matched_on table setting state bytes order) ≡ none)
+      → (matched_selection (matched_on table setting state bytes order) ≡ None)
       × (state_left table setting state bytes order ≡ state)
   -- 14 where neither 1 nor 18 nor 12 is given, and the bytes load to no whole state
   pub not_whole :

@@ -1,6 +1,5 @@
 -- What `tt_match` and `tt_fresh` answer, and what they leave in the lent state, for all input.
-use Rattle.std.specs.Prelude.{ℕ, ◌+◌, ◌*◌, Bool, true, false, cond, List, ◌++◌, ltb, length, drop}
-use Rattle.std.proofs.Math.Option.{Option, none, some}
+use Rattle.std.specs.Prelude.{ℕ, ◌+◌, ◌*◌, Bool, true, false, cond, List, ◌++◌, ltb, length, drop, Option, None, Some}
 use Rattle.model.specs.Numbers.{no_refusal, short_buffer, matched_number, matched_selection}
 use Rattle.model.specs.Setting.{Setting}
 use Rattle.model.specs.declared.answers.Matched.{Matched}
@@ -30,8 +29,8 @@ fresh_bytes state = cond (state_short state) state (stored fresh_state state)
 
 -- 0 for none, else the production + 1
 abbrev pub selection_mark : Option ℕ → ℕ
-selection_mark none = 0
-selection_mark (some p) = p + 1
+selection_mark None = 0
+selection_mark (Some p) = p + 1
 
 -- number + 256 × (0 none, production + 1)
 unfoldable pub matched_word : Matched → ℕ

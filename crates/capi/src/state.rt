@@ -24,7 +24,7 @@ fn load_kept(state: &[u8]) -> usize
     ensures { result ≡ (load state.now).kept }
 {
     if marks_read(state) {
-        words::word_at(state, 0) as usize
+        usize::from(words::word_at(state, 0))
     } else {
         TOO_MANY
     }
@@ -35,11 +35,7 @@ fn load_events(state: &[u8]) -> [u8; 200]
     ensures { result ≡ load_events state.now }
 {
     let mut events = [0u8; 200];
-    let mut i: usize = 0;
-    while i < 192 {
-        events[i] = state[8 + i];
-        i += 1;
-    }
+    events[..192].copy_from_slice(&state[8..200]);
     events
 }
 
@@ -49,19 +45,18 @@ pub fn load_state(state: &[u8]) -> State
 {
     State {
         kept: load_kept(state),
-        selected: words::word_at(state, 1) as usize,
+        selected: usize::from(words::word_at(state, 1)),
         open: words::word_at(state, 2) == 1,
         events: load_events(state),
     }
 }
 
-// Word k, as `words::put_word` stores it.
+// Word k: the lower 16 bits.
 fn put_mark(out: &mut [u8], k: usize, n: usize)
     requires { 2 * k + 2 ≤ length out.old }
     ensures { out.new ≡ put_word out.old k n }
 {
-    out[2 * k] = (n % 256) as u8;
-    out[2 * k + 1] = (n / 256 % 256) as u8;
+    words::put_word(out, k, (n % 65536) as u16);
 }
 
 fn store_marks(out: &mut [u8], kept: usize, selected: usize, open: bool)
@@ -70,7 +65,7 @@ fn store_marks(out: &mut [u8], kept: usize, selected: usize, open: bool)
 {
     put_mark(out, 0, kept);
     put_mark(out, 1, selected);
-    put_mark(out, 2, open as usize);
+    put_mark(out, 2, usize::from(open));
     put_mark(out, 3, 0);
 }
 
@@ -78,11 +73,7 @@ fn store_events(out: &mut [u8], events: &[u8])
     requires { (200 ≤ length out.old) × (length events.now ≡ 200) }
     ensures { out.new ≡ take 8 out.old ++ take 192 events.now ++ drop 200 out.old }
 {
-    let mut j: usize = 0;
-    while j < 192 {
-        out[8 + j] = events[j];
-        j += 1;
-    }
+    out[8..200].copy_from_slice(&events[..192]);
 }
 
 // Bytes past the state stay.
@@ -100,9 +91,7 @@ pub fn keep(out: &mut [u8], matched: Matched, next: State)
     ensures { out.new ≡ left_by matched next out.old }
 {
     match matched {
-        Matched::Refused(_) => {}
-        Matched::Dropped => {}
-        Matched::Heard => store_state(out, next),
-        Matched::Selected(_) => store_state(out, next),
+        Matched::Refused(_) | Matched::Dropped => {}
+        Matched::Heard | Matched::Selected(_) => store_state(out, next),
     }
 }

@@ -14,34 +14,27 @@ use std::io::{self, Read, Write};
 const BUFFER_LENGTH: usize = 65536;
 
 // A refusal's number in plain words. The compiler gives 2 to 11 here, since the table's buffer is long enough.
-fn put_reason(out: &mut impl Write, number: u8) -> io::Result<()> {
+fn reason(number: u8) -> &'static str {
     match number {
-        2 => out.write_all(b"the text is longer than 8,192 bytes"),
-        3 => out.write_all(b"this byte may not stand in a table's text"),
-        4 => out.write_all(b"the line is not in the grammar"),
-        5 => out.write_all(
-            b"an unknown modifier, event type or detail, or a detail where none is taken",
-        ),
-        6 => out.write_all(b"a count or a number is out of range"),
-        7 => out.write_all(b"modifiers stand before an event type that takes none"),
-        8 => out.write_all(b"no state of the modifiers meets this event"),
-        9 => out.write_all(
-            b"a colon stands before an event that is no key event, or beside Shift or Lock",
-        ),
-        10 => out.write_all(b"counts with + and atoms as details are not supported yet"),
-        11 => out.write_all(
-            b"too many productions, events, calls or parameters, or keysyms in an event",
-        ),
-        _ => out.write_all(b"the text is refused"),
+        2 => "the text is longer than 8,192 bytes",
+        3 => "this byte may not stand in a table's text",
+        4 => "the line is not in the grammar",
+        5 => "an unknown modifier, event type or detail, or a detail where none is taken",
+        6 => "a count or a number is out of range",
+        7 => "modifiers stand before an event type that takes none",
+        8 => "no state of the modifiers meets this event",
+        9 => "a colon stands before an event that is no key event, or beside Shift or Lock",
+        10 => "counts with + and atoms as details are not supported yet",
+        11 => "too many productions, events, calls or parameters, or keysyms in an event",
+        _ => "the text is refused",
     }
 }
 
 // For example: 4 at byte 120, line 3: the line is not in the grammar. Bytes are counted from 0, lines from 1.
 fn put_refusal(out: &mut impl Write, text: &[u8], number: u8, place: usize) -> io::Result<()> {
     let line = line_at(text, place);
-    write!(out, "{number} at byte {place}, line {line}: ")?;
-    put_reason(out, number)?;
-    out.write_all(b"\n")
+    let reason = reason(number);
+    writeln!(out, "{number} at byte {place}, line {line}: {reason}")
 }
 
 // The canonical text has less than 49,000 bytes, so 65,536 are always enough: for each of 256 events a type of 18 bytes, a count of
@@ -49,21 +42,13 @@ fn put_refusal(out: &mut impl Write, text: &[u8], number: u8, place: usize) -> i
 // `~Shift` and a blank, three and a half times the text's 8,192 bytes and three more an event; a colon and a newline for each of
 // 64 productions, a blank and two brackets for each of 128 calls, two quotes and a comma for each of 256 parameters; and the
 // names and parameters of calls, which are parts of the text.
+#[tactic(auto, unfolding(printer::specs::Write::written, printer::specs::Write::write_number))]
 fn put_canonical(out: &mut impl Write, table: &[u8], text: &[u8]) -> io::Result<()> {
     let mut canonical = [0u8; BUFFER_LENGTH];
-    let written = printer::write(table, text, text, &mut canonical);
-    match written {
-        Written::Accepted(n) => put_first(out, &canonical, n),
+    match printer::write(table, text, text, &mut canonical) {
+        Written::Accepted(n) => out.write_all(&canonical[..n]),
         Written::Refused(number) => put_refusal(out, text, number, 0),
     }
-}
-
-// The first n bytes.
-fn put_first(out: &mut impl Write, bytes: &[u8], n: usize) -> io::Result<()> {
-    if n <= bytes.len() {
-        out.write_all(&bytes[0..n])?;
-    }
-    Ok(())
 }
 
 fn check(out: &mut impl Write, text: &[u8]) -> io::Result<()> {
@@ -80,7 +65,8 @@ fn is_readable(input: &mut impl Read) -> bool {
     input.read(&mut none[..0]).is_ok()
 }
 
-// Reads until the buffer is full, the input ends or a read fails, and says how many bytes it put at the buffer's start.
+// Reads until the buffer is full, the input ends or a read fails, and says how many bytes it put at the buffer's start. No method
+// of `Read` stops at all three without a heap.
 fn read_full(input: &mut impl Read, buffer: &mut [u8]) -> usize
     ensures { result ≤ length buffer.new }
 {

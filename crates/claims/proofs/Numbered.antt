@@ -4,7 +4,7 @@ use native.Mathlib.Omega.{arith}
 use borrow.Author.Tests.{eqb-false}
 use mathlib.Core.Path.{◌≡◌, refl, subst}
 use mathlib.Core.Bool.{Bool, true, false, cond}
-use mathlib.Core.Option.{Option, none, some}
+use Rattle.std.specs.Prelude.{Option, None, Some}
 use mathlib.Core.List.{List, [], ◌∷◌, ◌++◌, map}
 use lib.Dec.{eqb, leb, ltb}
 use lib.ListN.{length}
@@ -128,8 +128,8 @@ module _ (text : List ℕ) (rest : ℕ → Directive → List Production → Out
 
   directive_numbered :
       (at : ℕ) (d : Directive) (ps : List Production) (o : Option Directive) → Numbered (after_directive text at d ps o rest)
-  directive_numbered at d ps (some e) = on_numbered (line_end text at) e ps
-  directive_numbered at d ps none =
+  directive_numbered at d ps (Some e) = on_numbered (line_end text at) e ps
+  directive_numbered at d ps None =
       cond_numbered (is_blank_line (line_at text at)) _ _ (on_numbered (line_end text at) d ps)
       (after_numbered at d ps (line_outcome ps at (line_at text at)) (line_numbered ps at (line_at text at)))
 
@@ -143,8 +143,8 @@ lines_numbered (suc fuel) text at d ps =
 
 bytes_numbered : (text : List ℕ) (o : Option ℕ) → Numbered (after_bytes text o)
 unfolding lines_of
-bytes_numbered text (some place) = omega arith
-bytes_numbered text none = lines_numbered (length text + 1) text 0 Directive.Replace []
+bytes_numbered text (Some place) = omega arith
+bytes_numbered text None = lines_numbered (length text + 1) text 0 Directive.Replace []
 
 compiled_numbered : (text : List ℕ) → Numbered (compiled text)
 unfolding compiled

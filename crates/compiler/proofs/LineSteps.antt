@@ -4,7 +4,7 @@ use native.Mathlib.Omega.{arith}
 use mathlib.Core.Path.{◌≡◌, refl, sym, ap, ◌∙◌, subst}
 use mathlib.Core.Bool.{true, false}
 use mathlib.Core.List.{List, [], ◌∷◌, ◌++◌, map}
-use mathlib.Core.Option.{none}
+use Rattle.std.specs.Prelude.{None}
 use lib.ListN.{length, length-append}
 use borrow.Author.Tests.{eq-eqb, ne_eqb}
 use Rattle.model.specs.Lists.{part}
@@ -58,7 +58,7 @@ pub directive_first : (text : List ℕ) (at : ℕ) → at ≡ 0 → directive_at
 unfolding directive_at
 directive_first text at e = rw (eq-eqb at 0 e) (ap (λ (n : ℕ). directive_of (line_at text n)) (sym e))
 
-pub directive_later : (text : List ℕ) (at : ℕ) → (at ≡ 0 → ⊥) → directive_at text at ≡ none
+pub directive_later : (text : List ℕ) (at : ℕ) → (at ≡ 0 → ⊥) → directive_at text at ≡ None
 unfolding directive_at
 directive_later text at e = rw (ne_eqb at 0 e)
 

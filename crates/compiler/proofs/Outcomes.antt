@@ -3,7 +3,7 @@ use Prim.Native.Nat.{ℕ, ◌≤◌, ◌<◌}
 use mathlib.Core.Path.{◌≡◌, refl, sym, ap, ◌∙◌}
 use mathlib.Core.Bool.{Bool, cond}
 use mathlib.Core.List.{List, [], ◌++◌}
-use mathlib.Core.Option.{Option, none, some}
+use Rattle.std.specs.Prelude.{Option, None, Some}
 use lib.Dec.{ltb}
 use lib.ListN.{length, drop}
 use borrow.Author.Tests.{le-ltb, lt-ltb}
@@ -77,11 +77,11 @@ module _ (text : List ℕ) where
       ap (λ (b : Bool). cond b (refused long_text 0) (after_bytes text (first_bad_byte text))) (le-ltb 8192 (length text) h)
       ∙ ap (after_bytes text) e
 
-  pub bad_byte_lem : (p : ℕ) → length text ≤ 8192 → first_bad_byte text ≡ some p → compiled text ≡ refused bad_byte p
-  bad_byte_lem p h e = not_long (some p) h e
+  pub bad_byte_lem : (p : ℕ) → length text ≤ 8192 → first_bad_byte text ≡ Some p → compiled text ≡ refused bad_byte p
+  bad_byte_lem p h e = not_long (Some p) h e
 
-  pub good_bytes : length text ≤ 8192 → first_bad_byte text ≡ none → compiled text ≡ lines_of text
-  good_bytes h e = not_long none h e
+  pub good_bytes : length text ≤ 8192 → first_bad_byte text ≡ None → compiled text ≡ lines_of text
+  good_bytes h e = not_long None h e
 
 -- ---- What an accepted text gives
 

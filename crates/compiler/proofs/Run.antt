@@ -4,7 +4,7 @@ use native.Mathlib.Omega.{arith}
 use mathlib.Core.Path.{◌≡◌, refl, sym, ap, ◌∙◌, subst}
 use mathlib.Core.Bool.{Bool, true, false, cond}
 use mathlib.Core.List.{List, [], ◌∷◌, ◌++◌, append-nil}
-use mathlib.Core.Option.{Option, none, some}
+use Rattle.std.specs.Prelude.{Option, None, Some}
 use lib.Dec.{leb}
 use lib.ListN.{length, drop, drop_of_length-le}
 use borrow.Author.Tests.{le-leb, lt-leb}
@@ -114,8 +114,8 @@ module _ (text : List ℕ) (at f : ℕ) (d : Directive) (ps : List Production) (
 
   step_meant : (o : Option Directive) → lines_of text ≡ after_directive text at d ps o onward → Meant (line_step o d ps at (line_at text at))
   unfolding plain_step
-  step_meant (some e) z = (kept, z)
-  step_meant none z = plain_meant (is_blank_line (line_at text at)) (line_outcome ps at (line_at text at)) refl z
+  step_meant (Some e) z = (kept, z)
+  step_meant None z = plain_meant (is_blank_line (line_at text at)) (line_outcome ps at (line_at text at)) refl z
 
   step_after : (new : List ℕ) (x : LineStep) → length text < suc f + at → StepHeld x [] new → Meant x → AfterLine text new at (step_done x)
   step_after new (going e qs) enough h m =

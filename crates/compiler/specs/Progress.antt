@@ -1,6 +1,5 @@
 -- A line of a text: where the compiler stands after it, as the model's outcome has it.
-use Rattle.std.specs.Prelude.{ℕ, ◌≡◌, false, cond, List, [], ◌∷◌, ◌++◌}
-use Rattle.std.proofs.Math.Option.{Option, none, some}
+use Rattle.std.specs.Prelude.{ℕ, ◌≡◌, false, cond, List, [], ◌∷◌, ◌++◌, Option, None, Some}
 use Rattle.model.specs.Lines.{is_blank_line}
 use Rattle.model.specs.Compiling.{passes_limit, LineOutcome, add, line_outcome}
 use Rattle.model.specs.Tables.{Production}
@@ -33,8 +32,8 @@ plain_step d ps base l = cond (is_blank_line l) (going d ps) (outcome_step d ps 
 
 -- a line, a directive or not
 abbrev pub line_step : Option Directive → Directive → List Production → ℕ → List ℕ → LineStep
-line_step (some e) d ps base l = going e ps
-line_step none d ps base l = plain_step d ps base l
+line_step (Some e) d ps base l = going e ps
+line_step None d ps base l = plain_step d ps base l
 
 -- as it is answered
 abbrev pub step_done : LineStep → LineDone

@@ -1,53 +1,31 @@
--- The copies of a merge, for each directive of the new table, and that there is room for them.
+-- What a merge keeps, copied in order, is what its directive says.
 use Prim.Native.Nat.{ℕ}
-use mathlib.Core.Path.{◌≡◌, subst}
-use mathlib.Core.Bool.{true, false}
-use mathlib.Core.List.{List}
+use mathlib.Core.Path.{◌≡◌, refl, ◌∙◌}
+use mathlib.Core.Bool.{Bool, true, false}
+use mathlib.Core.List.{List, [], ◌∷◌, ◌++◌}
+use Rattle.model.specs.Tables.{Production}
 use Rattle.model.specs.declared.events.Directive.{Directive}
-use Rattle.tables.specs.Reading.{production_total, directive_in}
-use Rattle.tally.specs.Kept.{kept_from}
-use Rattle.tally.specs.Counting.{no_tally, tally_all, tally_merged, TallyRoom}
-use Rattle.copying.specs.Copying.{put_all, put_by}
+use Rattle.tables.specs.Reading.{production_total}
+use Rattle.tally.specs.Kept.{marked, kept_from, kept_by}
+use Rattle.tally.specs.Counting.{no_tally, tally_one, tally_all, put_kept}
 use Rattle.tally.specs.declared.count.Tally.{Tally}
-use Rattle.tally.proofs.Tallies.{all_room}
-use Rattle.tally.proofs.Directives.{replace_tally, override_tally, augment_tally}
+use Rattle.copying.specs.Copying.{put_one, put_all, put_by}
 
-module _ (old new : List ℕ) where
-  -- ---- Replace
+all_more : (s : Bool) (l : List ℕ) (t : Tally) (ps : List Production) (ks : List (Bool × Production))
+    → put_kept put_one l t (marked s ps ++ ks) ≡ put_kept put_one (put_all s l t ps) (tally_all t ps) ks
+unfolding put_kept put_all tally_all
+all_more s l t [] ks = refl
+all_more s l t (p ∷ ps) ks = all_more s (put_one s l t p) (tally_one t p) ps ks
 
-  pub replace_put : (out : List ℕ) → directive_in new ≡ Directive.Replace → put_by (directive_in new) old new out ≡ put_all true out no_tally (kept_from new 0 old 0)
-  unfolding put_by
-  replace_put out e = rw e
+all_last : (s : Bool) (l : List ℕ) (t : Tally) (ps : List Production) → put_kept put_one l t (marked s ps) ≡ put_all s l t ps
+unfolding put_kept put_all
+all_last s l t [] = refl
+all_last s l t (p ∷ ps) = all_last s (put_one s l t p) (tally_one t p) ps
 
-  pub replace_room : directive_in new ≡ Directive.Replace → TallyRoom (tally_merged old new) → TallyRoom (tally_all no_tally (kept_from new 0 old 0))
-  replace_room e r = subst (λ (t : Tally). TallyRoom t) (replace_tally old new e) r
-
-  -- ---- Override
-
-  pub override_put : (out : List ℕ) → directive_in new ≡ Directive.Override
-      → put_by (directive_in new) old new out
-      ≡ put_all false (put_all true out no_tally (kept_from new 0 old 0)) (tally_all no_tally (kept_from new 0 old 0)) (kept_from old 0 new (production_total new))
-  unfolding put_by
-  override_put out e = rw e
-
-  pub override_room : directive_in new ≡ Directive.Override → TallyRoom (tally_merged old new)
-      → TallyRoom (tally_all (tally_all no_tally (kept_from new 0 old 0)) (kept_from old 0 new (production_total new)))
-  override_room e r = subst (λ (t : Tally). TallyRoom t) (override_tally old new e) r
-
-  pub override_first : directive_in new ≡ Directive.Override → TallyRoom (tally_merged old new) → TallyRoom (tally_all no_tally (kept_from new 0 old 0))
-  override_first e r = all_room (tally_all no_tally (kept_from new 0 old 0)) (kept_from old 0 new (production_total new)) (override_room e r)
-
-  -- ---- Augment
-
-  pub augment_put : (out : List ℕ) → directive_in new ≡ Directive.Augment
-      → put_by (directive_in new) old new out
-      ≡ put_all true (put_all false out no_tally (kept_from old 0 new 0)) (tally_all no_tally (kept_from old 0 new 0)) (kept_from new 0 old (production_total old))
-  unfolding put_by
-  augment_put out e = rw e
-
-  pub augment_room : directive_in new ≡ Directive.Augment → TallyRoom (tally_merged old new)
-      → TallyRoom (tally_all (tally_all no_tally (kept_from old 0 new 0)) (kept_from new 0 old (production_total old)))
-  augment_room e r = subst (λ (t : Tally). TallyRoom t) (augment_tally old new e) r
-
-  pub augment_first : directive_in new ≡ Directive.Augment → TallyRoom (tally_merged old new) → TallyRoom (tally_all no_tally (kept_from old 0 new 0))
-  augment_first e r = all_room (tally_all no_tally (kept_from old 0 new 0)) (kept_from new 0 old (production_total old)) (augment_room e r)
+pub kept_put : (d : Directive) (old new out : List ℕ) → put_kept put_one out no_tally (kept_by d old new) ≡ put_by d old new out
+unfolding kept_by put_by
+kept_put Directive.Replace old new out = all_last true out no_tally (kept_from new 0 old 0)
+kept_put Directive.Override old new out =
+    all_more true out no_tally (kept_from new 0 old 0) _ ∙ all_last false _ _ (kept_from old 0 new (production_total new))
+kept_put Directive.Augment old new out =
+    all_more false out no_tally (kept_from old 0 new 0) _ ∙ all_last true _ _ (kept_from new 0 old (production_total old))

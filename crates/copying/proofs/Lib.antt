@@ -1,4 +1,3 @@
 pub mod Puts
 pub mod ProductionPuts
-pub mod KeptSteps
 pub mod Directives

@@ -50,10 +50,7 @@ fn record(code: u8, detail: u8, modifiers: u8, time: u32) -> [u8; 32] {
     let mut r = [0u8; 32];
     r[0] = code;
     r[1] = detail;
-    r[4] = (time % 256) as u8;
-    r[5] = (time / 256 % 256) as u8;
-    r[6] = (time / 65536 % 256) as u8;
-    r[7] = (time / 16777216 % 256) as u8;
+    r[4..8].copy_from_slice(&time.to_le_bytes());
     r[28] = modifiers;
     r
 }
@@ -78,205 +75,117 @@ fn keyboard(meta_row: usize) -> [u8; 1992] {
     maps
 }
 
-// The first call of the production that was selected.
-fn show(
-    out: &mut impl Write,
-    table: &[u8],
-    text: &[u8],
-    label: &[u8],
-    matched: Matched,
-) -> io::Result<()> {
-    let Matched::Selected(p) = matched else {
-        return Ok(());
-    };
-    out.write_all(label)?;
-    out.write_all(b": ")?;
-    out.write_all(calls::name(table, text, text, p, 0))?;
-    out.write_all(b"(")?;
-    out.write_all(calls::parameter(table, text, text, p, 0, 0))?;
-    out.write_all(b")\n")
-}
-
-fn hear(
-    out: &mut impl Write,
-    table: &[u8],
-    text: &[u8],
-    meta_row: usize,
+// A table with its text, a keyboard, the state after the events so far, and where the calls are printed.
+#[derive(Drop)]
+struct Desk<'a, W> {
+    out: &'a mut W,
+    table: &'a [u8],
+    text: &'a [u8],
+    maps: [u8; 1992],
     state: State,
-    r: [u8; 32],
-    label: &[u8],
-) -> io::Result<State> {
-    let maps = keyboard(meta_row);
-    let answer = matcher::match_event(table, &maps, MULTI_CLICK_TIME, state, &r, b'l');
-    let matched = answer.matched;
-    show(out, table, text, label, matched)?;
-    Ok(answer.state)
 }
 
-// Press and release of button 1, 20 milliseconds apart.
-fn click(
-    out: &mut impl Write,
-    table: &[u8],
-    text: &[u8],
-    state: State,
-    modifiers: u8,
-    time: u32,
-    label: &[u8],
-) -> io::Result<State> {
-    let press = record(BUTTON_PRESS, 1, modifiers, time);
-    let pressed = hear(out, table, text, MOD1_ROW, state, press, label)?;
-    let later = std::num::wrapping_add_u32(time, 20);
-    let release = record(BUTTON_RELEASE, 1, modifiers, later);
-    hear(out, table, text, MOD1_ROW, pressed, release, label)
-}
+impl<'a, W: Write> Desk<'a, W> {
+    // Before any event, on a keyboard that has Meta in this row.
+    fn new(out: &'a mut W, table: &'a [u8], text: &'a [u8], meta_row: usize) -> Self {
+        Desk {
+            out,
+            table,
+            text,
+            maps: keyboard(meta_row),
+            state: State::fresh(),
+        }
+    }
 
-fn key(
-    out: &mut impl Write,
-    table: &[u8],
-    text: &[u8],
-    state: State,
-    modifiers: u8,
-    time: u32,
-    label: &[u8],
-) -> io::Result<State> {
-    let press = record(KEY_PRESS, KEYCODE_G, modifiers, time);
-    hear(out, table, text, MOD1_ROW, state, press, label)
-}
+    // The first call of the production that was selected.
+    fn show(&mut self, label: &[u8], matched: Matched) -> io::Result<()> {
+        let Matched::Selected(p) = matched else {
+            return Ok(());
+        };
+        self.out.write_all(label)?;
+        self.out.write_all(b": ")?;
+        self.out
+            .write_all(calls::name(self.table, self.text, self.text, p, 0))?;
+        self.out.write_all(b"(")?;
+        self.out.write_all(calls::parameter(self.table, self.text, self.text, p, 0, 0))?;
+        self.out.write_all(b")\n")
+    }
 
-// G with Mod1 and with Mod4, on a keyboard that has Meta in this row.
-fn with_meta(out: &mut impl Write, table: &[u8], text: &[u8], meta_row: usize) -> io::Result<()> {
-    let mod1 = record(KEY_PRESS, KEYCODE_G, MOD1, 1000);
-    let mod4 = record(KEY_PRESS, KEYCODE_G, MOD4, 1100);
-    let s = State::fresh();
-    let s = hear(out, table, text, meta_row, s, mod1, b"Mod1 G")?;
-    hear(out, table, text, meta_row, s, mod4, b"Mod4 G")?;
-    Ok(())
-}
+    fn hear(&mut self, r: [u8; 32], label: &[u8]) -> io::Result<()> {
+        let answer = matcher::match_event(
+            self.table,
+            &self.maps,
+            MULTI_CLICK_TIME,
+            self.state,
+            &r,
+            b'l',
+        );
+        self.state = answer.state;
+        self.show(label, answer.matched)
+    }
 
-fn three_clicks(out: &mut impl Write, table: &[u8], text: &[u8], s: State) -> io::Result<State> {
-    let s = click(out, table, text, s, NONE, 1000, b"click at 1000")?;
-    let s = click(
-        out,
-        table,
-        text,
-        s,
-        NONE,
-        1100,
-        b"click at 1100, a double click",
-    )?;
-    click(
-        out,
-        table,
-        text,
-        s,
-        NONE,
-        1200,
-        b"click at 1200, the third in a row",
-    )
-}
+    // Press and release of button 1, 20 milliseconds apart.
+    fn click(&mut self, modifiers: u8, time: u32, label: &[u8]) -> io::Result<()> {
+        self.hear(record(BUTTON_PRESS, 1, modifiers, time), label)?;
+        self.hear(
+            record(BUTTON_RELEASE, 1, modifiers, time.wrapping_add(20)),
+            label,
+        )
+    }
 
-// 4294967196 is 100 before the clock's wrap.
-fn across_the_wrap(out: &mut impl Write, table: &[u8], text: &[u8], s: State) -> io::Result<State> {
-    let s = click(
-        out,
-        table,
-        text,
-        s,
-        NONE,
-        4294967196,
-        b"click at 4294967196",
-    )?;
-    let s = click(out, table, text, s, NONE, 99, b"click at 99, 199 ms later")?;
-    let s = click(
-        out,
-        table,
-        text,
-        s,
-        NONE,
-        4294967196,
-        b"click at 4294967196",
-    )?;
-    click(
-        out,
-        table,
-        text,
-        s,
-        NONE,
-        100,
-        b"click at 100, 200 ms later",
-    )
-}
+    fn key(&mut self, modifiers: u8, time: u32, label: &[u8]) -> io::Result<()> {
+        self.hear(record(KEY_PRESS, KEYCODE_G, modifiers, time), label)
+    }
 
-fn with_caps_lock(out: &mut impl Write, table: &[u8], text: &[u8], s: State) -> io::Result<State> {
-    let s = key(out, table, text, s, CTRL, 9000, b"Ctrl G at 9000")?;
-    let s = key(
-        out,
-        table,
-        text,
-        s,
-        CTRL_LOCK,
-        9100,
-        b"Ctrl G at 9100, Caps Lock on",
-    )?;
-    let s = key(out, table, text, s, NONE, 9200, b"G at 9200")?;
-    click(
-        out,
-        table,
-        text,
-        s,
-        LOCK,
-        9300,
-        b"click at 9300, Caps Lock on",
-    )
-}
+    // G with Mod1 and with Mod4.
+    fn with_meta(&mut self) -> io::Result<()> {
+        self.key(MOD1, 1000, b"Mod1 G")?;
+        self.key(MOD4, 1100, b"Mod4 G")
+    }
 
-// One motion in a line stands for any number of them.
-fn drag(out: &mut impl Write, table: &[u8], text: &[u8], s: State) -> io::Result<State> {
-    let press = record(BUTTON_PRESS, 1, NONE, 20000);
-    let release = record(BUTTON_RELEASE, 1, NONE, 20040);
-    let s = hear(out, table, text, MOD1_ROW, s, press, b"press at 20000")?;
-    let s = hear(
-        out,
-        table,
-        text,
-        MOD1_ROW,
-        s,
-        motion(20010),
-        b"motion at 20010",
-    )?;
-    let s = hear(
-        out,
-        table,
-        text,
-        MOD1_ROW,
-        s,
-        motion(20020),
-        b"motion at 20020",
-    )?;
-    let s = hear(
-        out,
-        table,
-        text,
-        MOD1_ROW,
-        s,
-        motion(20030),
-        b"motion at 20030",
-    )?;
-    hear(out, table, text, MOD1_ROW, s, release, b"release at 20040")
+    fn three_clicks(&mut self) -> io::Result<()> {
+        self.click(NONE, 1000, b"click at 1000")?;
+        self.click(NONE, 1100, b"click at 1100, a double click")?;
+        self.click(NONE, 1200, b"click at 1200, the third in a row")
+    }
+
+    // 4294967196 is 100 before the clock's wrap.
+    fn across_the_wrap(&mut self) -> io::Result<()> {
+        self.click(NONE, 4294967196, b"click at 4294967196")?;
+        self.click(NONE, 99, b"click at 99, 199 ms later")?;
+        self.click(NONE, 4294967196, b"click at 4294967196")?;
+        self.click(NONE, 100, b"click at 100, 200 ms later")
+    }
+
+    fn with_caps_lock(&mut self) -> io::Result<()> {
+        self.key(CTRL, 9000, b"Ctrl G at 9000")?;
+        self.key(CTRL_LOCK, 9100, b"Ctrl G at 9100, Caps Lock on")?;
+        self.key(NONE, 9200, b"G at 9200")?;
+        self.click(LOCK, 9300, b"click at 9300, Caps Lock on")
+    }
+
+    // One motion in a line stands for any number of them.
+    fn drag(&mut self) -> io::Result<()> {
+        self.hear(record(BUTTON_PRESS, 1, NONE, 20000), b"press at 20000")?;
+        self.hear(motion(20010), b"motion at 20010")?;
+        self.hear(motion(20020), b"motion at 20020")?;
+        self.hear(motion(20030), b"motion at 20030")?;
+        self.hear(record(BUTTON_RELEASE, 1, NONE, 20040), b"release at 20040")
+    }
 }
 
 fn run(out: &mut impl Write, table: &[u8], text: &[u8]) -> io::Result<()> {
     out.write_all(text)?;
     out.write_all(b"\n")?;
-    let s = State::fresh();
-    let s = three_clicks(out, table, text, s)?;
-    let s = across_the_wrap(out, table, text, s)?;
-    let s = with_caps_lock(out, table, text, s)?;
-    drag(out, table, text, s)?;
+    let mut desk = Desk::new(out, table, text, MOD1_ROW);
+    desk.three_clicks()?;
+    desk.across_the_wrap()?;
+    desk.with_caps_lock()?;
+    desk.drag()?;
     out.write_all(b"\nMeta is Mod1\n")?;
-    with_meta(out, table, text, MOD1_ROW)?;
+    Desk::new(out, table, text, MOD1_ROW).with_meta()?;
     out.write_all(b"\nMeta is Mod4\n")?;
-    with_meta(out, table, text, MOD4_ROW)
+    Desk::new(out, table, text, MOD4_ROW).with_meta()
 }
 
 fn main(rt: HostRuntime) -> io::Result<()> {
@@ -286,9 +195,6 @@ fn main(rt: HostRuntime) -> io::Result<()> {
     let mut table = [0u8; tables::TABLE_LENGTH];
     match compiler::compile(text, &mut table) {
         Compiled::Accepted => run(&mut out, &table, text),
-        Compiled::Refused {
-            number: _,
-            place: _,
-        } => out.write_all(b"the table is refused\n"),
+        Compiled::Refused { .. } => out.write_all(b"the table is refused\n"),
     }
 }

@@ -58,3 +58,7 @@ joined_event c n s k f lo hi =
   where
     p : Bool
     p = leb 2 c && leb c 34 && leb 1 n && leb n 9 && (leb n 1 || leb c 5)
+
+-- numbers joined are at most 3 where both are
+pub few_joined : (x y : ℕ) → ltb (bit_or x y) 4 ≡ (ltb x 4 && ltb y 4)
+few_joined x y = or_below 2 x y

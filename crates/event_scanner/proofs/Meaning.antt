@@ -3,7 +3,7 @@ use Prim.Native.Nat.{ℕ, ◌+◌}
 use mathlib.Core.Path.{◌≡◌, refl, ap, ◌∙◌}
 use mathlib.Core.List.{List}
 use mathlib.Core.Bool.{Bool, true, false, cond}
-use mathlib.Core.Option.{none, some}
+use Rattle.std.specs.Prelude.{None, Some}
 use lib.ListN.{length}
 use Rattle.model.specs.Lists.{bytes, any}
 use Rattle.model.specs.Bytes.{skip, sign_at}
@@ -38,7 +38,7 @@ module _ (l : List ℕ) (bang colon : Bool) (start : ℕ) (ms : List Modifier) (
       (cond stands (ListRead.List (cond is_none ListKind.NoModifier ListKind.AnyModifier) end) ListRead.Broken)
       (ListRead.List ListKind.Listed end)))
       ≡ with_list l
-      (cond lone (cond stands (some (cond is_none no_modifier any_modifier)) none) (some (listed bang colon ms)))
+      (cond lone (cond stands (Some (cond is_none no_modifier any_modifier)) None) (Some (listed bang colon ms)))
       end
   unfolding of_kind
   pick_read true true true = type_read l (of_kind ListKind.NoModifier) (type_at l end)

@@ -1,6 +1,5 @@
 -- An event or a key sequence as the parts of its line, and which events of the model these are.
-use Rattle.std.specs.Prelude.{ℕ, ◌+◌, Bool, cond, List, [], ◌∷◌, length}
-use Rattle.std.proofs.Math.Option.{Option, none, some}
+use Rattle.std.specs.Prelude.{ℕ, ◌+◌, Bool, cond, List, [], ◌∷◌, length, Option, None, Some}
 use Rattle.model.specs.Lists.{part}
 use Rattle.model.specs.Bytes.{run_end, skip, sign_at}
 use Rattle.model.specs.Events.{ModifierList, Count, WrittenEvent, event, EventsRead, events, lead_at, modifiers_at, type_at, count_at, keys_from}
@@ -70,8 +69,8 @@ abbrev pub list_in : List ℕ → ListSpans → ModifierList
 list_in l s = list_of_kind s.kind s.bang s.colon (modifiers_in (modifiers_at l s.start))
 
 abbrev pub count_in : List ℕ → CountSpan → Option Count
-count_in l CountSpan.Absent = none
-count_in l (CountSpan.Digits start end plus) = some (record { digits = part l start end; plus = plus })
+count_in l CountSpan.Absent = None
+count_in l (CountSpan.Digits start end plus) = Some (record { digits = part l start end; plus = plus })
 
 abbrev pub part_in : List ℕ → Part → List ℕ
 part_in l p = part l p.start p.end

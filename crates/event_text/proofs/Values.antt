@@ -26,14 +26,14 @@ module _ (code v : ℕ) where
   unfolding value_text
   value_motion e = rw (e, motion_name v)
 
-  pub value_mode : 5 < code → (code ≡ 6 → ⊥) → code ≤ 10 → place_or_number v 0 4 modes_at ≡ value_text code v
+  pub value_mode : 7 ≤ code → code ≤ 10 → place_or_number v 0 4 modes_at ≡ value_text code v
   unfolding value_text
-  value_mode h n k =
+  value_mode h k =
       let l : 2 ≤ code = omega arith in
       let m : 4 ≤ code = omega arith in
       let o : 3 < code = omega arith in
-      let p : 7 ≤ code = omega arith in
-      rw (le-leb 2 code l, lt-leb code 3 o, le-leb 4 code m, lt-leb code 5 h, ne_eqb code 6 n, le-leb 7 code p, le-leb code 10 k, mode_name v)
+      let p : 5 < code = omega arith in
+      rw (le-leb 2 code l, lt-leb code 3 o, le-leb 4 code m, lt-leb code 5 p, ne_eqb code 6 (λ e. omega arith), le-leb 7 code h, le-leb code 10 k, mode_name v)
 
   pub value_request : 10 < code → place_or_number v 0 3 requests_at ≡ value_text code v
   unfolding value_text

@@ -1,5 +1,5 @@
 // Events as they are written: modifiers, type, count and detail.
-#![tactic(auto)]
+#![tactic(auto, unfolding(crate::specs::Named::place_or_number))]
 
 ghost use Rattle.std.specs.Prelude.{◌≡◌, true, ◌++◌, ◌+◌, ◌≤◌, ◌<◌};
 ghost use Rattle.model.specs.Lists.{bytes};
@@ -19,12 +19,11 @@ fn put_type(out: &mut [u8], at: usize, e: KeptEvent) -> usize
     requires { (at ≤ 8900000000) × (2 ≤ e.code) × (e.code ≤ 34) }
     ensures { (Put out.old out.new at result (type_text e)) × (result ≤ at + longest_name) }
 {
-    let clause = e.clause;
-    let code = e.code;
-    let place = places::type_place(code);
-    if clause {
-        return bytes::put_name(out, at, places::BUTTON_MOTION);
-    }
+    let place = if e.clause {
+        places::BUTTON_MOTION
+    } else {
+        places::type_place(e.code)
+    };
     bytes::put_name(out, at, place)
 }
 
@@ -36,7 +35,7 @@ fn put_count(out: &mut [u8], at: usize, n: u8) -> usize
         return at;
     }
     let mut next = bytes::put_byte(out, at, b'(');
-    next = numbers::put_decimal(out, next, n as u32);
+    next = numbers::put_decimal(out, next, u32::from(n));
     bytes::put_byte(out, next, b')')
 }
 
@@ -45,43 +44,33 @@ fn put_named(out: &mut [u8], at: usize, v: u32, low: u32, count: u32, place: usi
     requires { (at ≤ 8900000000) × (place + count ≤ name_total) × (low + count ≤ 8) }
     ensures { (Put out.old out.new at result (place_or_number v low count place)) × (result ≤ at + longest_name) }
 {
-    if v < low {
-        return numbers::put_decimal(out, at, v);
+    if (low..low + count).contains(&v) {
+        bytes::put_name(out, at, place + (v - low) as usize)
+    } else {
+        numbers::put_decimal(out, at, v)
     }
-    if low + count <= v {
-        return numbers::put_decimal(out, at, v);
-    }
-    bytes::put_name(out, at, place + (v - low) as usize)
 }
 
 fn put_value(out: &mut [u8], at: usize, code: u8, v: u32) -> usize
     requires { (at ≤ 8800000000) × (2 ≤ code) }
     ensures { (Put out.old out.new at result (value_text code v)) × (result ≤ at + longest_name) }
 {
-    if code <= 3 {
-        return key_names::put_keysym(out, at, v);
+    match code {
+        0..=3 => key_names::put_keysym(out, at, v),
+        4 | 5 => put_named(out, at, v, 1, 5, table::BUTTONS),
+        6 => put_named(out, at, v, 0, 2, table::MOTIONS),
+        7..=10 => put_named(out, at, v, 0, 4, table::MODES),
+        _ => put_named(out, at, v, 0, 3, table::REQUESTS),
     }
-    if code <= 5 {
-        return put_named(out, at, v, 1, 5, table::BUTTONS);
-    }
-    if code == 6 {
-        return put_named(out, at, v, 0, 2, table::MOTIONS);
-    }
-    if code <= 10 {
-        return put_named(out, at, v, 0, 4, table::MODES);
-    }
-    put_named(out, at, v, 0, 3, table::REQUESTS)
 }
 
 fn put_detail(out: &mut [u8], at: usize, e: KeptEvent) -> usize
     requires { (at ≤ 8800000000) × (2 ≤ e.code) }
     ensures { (Put out.old out.new at result (detail_text e.code e.detail)) × (result ≤ at + longest_name) }
 {
-    let code = e.code;
-    let detail = e.detail;
-    match detail {
+    match e.detail {
         Detail::Unspecified => at,
-        Detail::Value(v) => put_value(out, at, code, v),
+        Detail::Value(v) => put_value(out, at, e.code, v),
     }
 }
 
@@ -90,11 +79,10 @@ fn put_counted(out: &mut [u8], at: usize, e: KeptEvent) -> usize
     requires { (at ≤ 8700000000) × (2 ≤ e.code) × (e.code ≤ 34) }
     ensures { (Put out.old out.new at result (bytes "<" ++ (type_text e ++ (bytes ">" ++ count_text e.count)))) × (result ≤ at + 1300) }
 {
-    let count = e.count;
     let mut next = bytes::put_byte(out, at, b'<');
     next = put_type(out, next, e);
     next = bytes::put_byte(out, next, b'>');
-    put_count(out, next, count)
+    put_count(out, next, e.count)
 }
 
 pub fn put_event(out: &mut [u8], at: usize, e: KeptEvent) -> usize

@@ -2,14 +2,13 @@
 use Prim.Native.Nat.{ℕ, ◌+◌, ◌*◌, ◌%◌, ◌≤◌, ◌<◌}
 use native.Mathlib.Omega.{arith}
 use native.Mathlib.Nat.{mod-eq_of_lt}
-use borrow.Author.Tests.{eqb-true, leb-true, eq-eqb}
-use mathlib.Core.Path.{◌≡◌, refl, sym}
-use mathlib.Core.Bool.{Bool, true, false, ◌&&◌, ◌||◌}
+use Rattle.std.proofs.lemmas.Bool.Decides.{nat_tests}
+use mathlib.Core.Path.{◌≡◌, sym}
+use mathlib.Core.Bool.{true, false, ◌&&◌, ◌||◌}
 use mathlib.Core.List.{List}
-use lib.Dec.{eqb, leb, ltb}
+use lib.Dec.{eqb, leb}
 use lib.ListN.{length, get_or}
 use Rattle.words.specs.Words.{word_at}
-use Rattle.words.proofs.Bools.{and_left, same_test}
 use Rattle.words.proofs.Images.{word_below}
 use Rattle.model.specs.Compiling.{passes_limit}
 use Rattle.tables.specs.Layout.{codes_at, counts_at, sets_at, clears_at, flags_at, lows_at, highs_at, first_lows_at, first_highs_at, table_length}
@@ -53,7 +52,7 @@ pub record TableFacts (l : List ℕ) : Type 0 where
   pub limit : passes_limit (decode l).productions ≡ false
 
 bare_low : (flags low high : ℕ) → (is_flag 4 flags || (eqb low 0 && eqb high 0)) ≡ true → is_flag 4 flags ≡ false → low ≡ 0
-bare_low flags low high d q = eqb-true low 0 (and_left (eqb low 0) (eqb high 0) (rw q at d))
+bare_low flags low high d q = grind (arith, nat_tests)
 
 entry_facts : (l : List ℕ) (i : ℕ) → event_ok l i ≡ true → keysyms_ok l i ≡ true → EntryFacts l i
 unfolding event_ok keysyms_ok event_entry event_from_words flags_in
@@ -91,21 +90,35 @@ table_facts l q =
       limit = (fit_facts (decode l) (whole_holds l q).fits).limit;
     }
 
+-- these facts one by one, as tactics take them
+module _ (l : List ℕ) (q : whole l ≡ true) where
+  pub long_table : table_length ≤ length l
+  long_table = (table_facts l q).long
+
+  pub few_events : event_total l ≤ 256
+  few_events = (table_facts l q).events
+
+  module _ (i : ℕ) (h : i < event_total l) where
+    pub code_low : 2 ≤ (event_entry l i).code
+    code_low = ((table_facts l q).entry i h).code_low
+
+    pub code_high : (event_entry l i).code ≤ 34
+    code_high = ((table_facts l q).entry i h).code_high
+
+    pub count_high : (event_entry l i).count ≤ 9
+    count_high = ((table_facts l q).entry i h).count_high
+
+    pub set_below : (event_entry l i).set < 8192
+    set_below = ((table_facts l q).entry i h).set_below
+
+    pub clear_below : (event_entry l i).clear < 8192
+    clear_below = ((table_facts l q).entry i h).clear_below
+
+pub ruleset table_rules = (long_table, few_events, code_low, code_high, count_high, set_below, clear_below)
+
 -- a keysym with a mark has it in its upper word
 upper_mark : (low high : ℕ) → low < 65536 → keysym_in_range (low + 65536 * high) ≡ true → eqb high 0 ≡ eqb (low + 65536 * high) 0
-upper_mark low high b h = same_test (eqb high 0) (eqb (low + 65536 * high) 0) there back
-  where
-    back : eqb (low + 65536 * high) 0 ≡ true → eqb high 0 ≡ true
-    back e = let z = eqb-true (low + 65536 * high) 0 e in eq-eqb high 0 (omega arith)
-
-    go : (t : Bool) → eqb (low + 65536 * high) 0 ≡ t → high ≡ 0 → eqb (low + 65536 * high) 0 ≡ true
-    go true q z = q
-    go false q z =
-        let m = leb-true 0x20000000 (low + 65536 * high) (and_left (leb 0x20000000 (low + 65536 * high)) (ltb (low + 65536 * high) 0x80000000) (rw q at h)) in
-        absurd (omega (arith, m, z, b))
-
-    there : eqb high 0 ≡ true → eqb (low + 65536 * high) 0 ≡ true
-    there e = go (eqb (low + 65536 * high) 0) refl (eqb-true high 0 e)
+upper_mark low high b h = grind (arith, nat_tests)
 
 module _ (l : List ℕ) (bytes : (i : ℕ) → get_or l i 0 < 256) where
   -- whether event i has a keysym after `@`

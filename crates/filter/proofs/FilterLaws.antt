@@ -1,22 +1,25 @@
 -- An event that begins a production along which a stretch reads as a prefix passes the quick test, and so stands within the
 -- bounds of those that pass.
-use Prim.Native.Nat.{ℕ, ◌+◌, ◌-◌, ◌*◌, ◌/◌, ◌%◌, ◌≤◌, ◌<◌}
+use Prim.Native.Nat.{ℕ, ◌+◌, ◌-◌, ◌*◌, ◌%◌, ◌≤◌, ◌<◌}
 use native.Mathlib.Omega.{arith}
-use borrow.Author.Tests.{eqb-true, eq-eqb, ltb-true, ltb-false, le-leb}
+use borrow.Author.Tests.{eq-eqb, ltb-true, ltb-false, le-leb}
+use Rattle.std.proofs.lemmas.Bool.Decides.{nat_tests}
+use mathlib.Core.Logic.{inl, inr}
+use Rattle.std.proofs.lemmas.Bool.{cases_lt, and_cases}
+use Rattle.std.proofs.lemmas.Nat.{le_or_l, le_or_r}
 use mathlib.Core.Path.{◌≡◌, refl, sym, ap, ◌∙◌}
-use mathlib.Core.Bool.{Bool, true, false, cond, not, ◌&&◌, ◌||◌, true≢false}
-use mathlib.Core.List.{List, [], ◌∷◌}
-use lib.Bits.{bit_and, bit_or, and_le_l, and_le_r, or_add_and}
-use lib.Dec.{eqb, leb, ltb}
+use mathlib.Core.Bool.{Bool, true, false, cond, not, ◌&&◌, ◌||◌}
+use mathlib.Core.List.{List}
+use lib.Bits.{bit_and, bit_or, and_le_r}
+use lib.Dec.{eqb, ltb}
 use lib.ListN.{length, get_or, take, drop}
 use Rattle.words.specs.Words.{word_at}
-use Rattle.words.proofs.Bools.{and_left, and_right, and_both, chain_parts}
+use Rattle.words.proofs.Bools.{and_right}
 use Rattle.keyboard.specs.Folds.{fold, folded}
 use Rattle.keyboard.proofs.Folds.{asked_in}
 use Rattle.model.specs.Setting.{Setting, first_keysym, second_keysym}
 use Rattle.model.specs.Asked.{Test, asks_bit_set, asked}
-use Rattle.model.specs.Counts.{quick}
-use Rattle.model.specs.Modifiers.{bit, bits_met, clause_met, state_meets}
+use Rattle.model.specs.Modifiers.{bit, state_meets}
 use Rattle.model.specs.declared.events.Event.{Event}
 use Rattle.model.specs.declared.events.KeptEvent.{KeptEvent}
 use Rattle.modifiers.proofs.Digits.{bit_and_lem}
@@ -26,46 +29,24 @@ use Rattle.resolving.specs.Gathering.{resolved_test}
 use Rattle.resolving.proofs.Asking.{asked_below}
 use Rattle.records.specs.Ranges.{EventRanges}
 use Rattle.counts.specs.Elements.{releases, element_count, element_code}
-use Rattle.tables.specs.Layout.{codes_at, counts_at, sets_at, lows_at, highs_at}
+use Rattle.tables.specs.Layout.{counts_at, sets_at, lows_at, highs_at}
 use Rattle.tables.specs.Reading.{is_flag, event_from_words, event_entry, event_total}
 use Rattle.filter.specs.declared.Sought.{Sought}
 use Rattle.follow.specs.declared.Followed.{Followed}
 use Rattle.states.specs.State.{zero_event}
 use Rattle.filter.specs.Filter.{Outside}
-use Rattle.follow.specs.Follow.{event_meets, detail_asked, asked_met, bits_meet, element_of, fits_after, size_in}
+use Rattle.follow.specs.Follow.{event_meets, detail_asked, bits_meet, element_of, fits_after, size_in}
 use Rattle.fields.specs.Fields.{flags_in, value_in}
-use Rattle.filter.specs.Filter.{other, sought_of, suits, code_seems, detail_seems, seems, may_begin, pairs, code_begins, PassersWithin}
+use Rattle.filter.specs.Filter.{sought_of, suits, code_seems, detail_seems, seems, may_begin, pairs, code_begins, PassersWithin}
 use Rattle.fields.proofs.TableFacts.{EntryFacts, TableFacts}
 use Rattle.follow.proofs.EventLaws.{meets_asked, meets_detail}
 use Rattle.follow.proofs.FollowLaws.{target, Walks, walks_start, walks_other, walks_over, walks_no, walks_turn}
 
 -- ---- The code
 
-release_odd : (own : ℕ) → releases own ≡ true → own % 2 ≡ 1
-unfolding releases
-release_odd own q = go (eqb own 3) refl
-  where
-    go : (t : Bool) → eqb own 3 ≡ t → own % 2 ≡ 1
-    go true e = rw (eqb-true own 3 e)
-    go false e = rw (eqb-true own 5 (ap (λ (t : Bool). t || eqb own 5) (sym e) ∙ q))
-
 first_code : (own count : ℕ) (s : Sought) → element_code own count 0 ≡ s.code → code_seems own s ≡ true
-unfolding element_code code_seems
-first_code own count s e = go (leb count 1) refl
-  where
-    same : own ≡ s.code → eqb (own / 2) (s.code / 2) ≡ true
-    same q = eq-eqb (own / 2) (s.code / 2) (omega arith)
-
-    kind : (t : Bool) → releases own ≡ t → leb count 1 ≡ false → eqb (own / 2) (s.code / 2) ≡ true
-    kind true q r =
-        let p : own - 1 ≡ s.code = sym (rw (r, q)) ∙ e in
-        let o : own % 2 ≡ 1 = release_odd own q in
-        eq-eqb (own / 2) (s.code / 2) (omega arith)
-    kind false q r = same (sym (rw (r, q)) ∙ e)
-
-    go : (t : Bool) → leb count 1 ≡ t → eqb (own / 2) (s.code / 2) ≡ true
-    go true q = same (sym (rw q) ∙ e)
-    go false q = kind (releases own) refl q
+unfolding element_code code_seems releases
+first_code own count s e = grind (arith, nat_tests)
 
 -- ---- The detail
 
@@ -92,17 +73,13 @@ sought_code map x = refl
 bits_within : (state wide set : ℕ) → wide < 8192 → set < 8192 → ((k : ℕ) → k < 13 → bit k set ≡ true → bit k wide ≡ true)
     → bit_and state wide ≡ wide → bit_and state set ≡ set
 bits_within state wide set hw hs within e =
-    same_bits 13 (bit_and state set) set (omega (arith, and_le_r state set)) hs (λ k h. bit_and_lem k state set ∙ go k h (bit k set) refl)
+    same_bits 13 (bit_and state set) set (omega (arith, and_le_r state set)) hs (λ k h. bit_and_lem k state set ∙ go k h)
   where
-    go : (k : ℕ) → k < 13 → (b : Bool) → bit k set ≡ b → bit k state && b ≡ b
-    go k h true q =
-        let w : bit k wide ≡ true = within k h q in
-        ap (λ (b : Bool). bit k state && b) (sym w) ∙ sym (bit_and_lem k state wide) ∙ ap (bit k) e ∙ w
-    go k h false q = none (bit k state)
-      where
-        none : (b : Bool) → b && false ≡ false
-        none true = refl
-        none false = refl
+    go : (k : ℕ) → k < 13 → bit k state && bit k set ≡ bit k set
+    go k h =
+        let w : bit k set ≡ true → bit k wide ≡ true = within k h in
+        let a : bit k state && bit k wide ≡ bit k wide = sym (bit_and_lem k state wide) ∙ ap (bit k) e in
+        grind (arith, w)
 
 -- plain bits asked set are among those that names resolve to
 set_within : (setting : Setting) (e : KeptEvent) (k : ℕ) → k < 13 → bit k e.set ≡ true → bit k (asked setting e).set ≡ true
@@ -116,17 +93,13 @@ asked_low setting e = asked_below setting e (resolved_test (asked setting e)) re
 first_part : (map : List ℕ) (set clear : ℕ) (l : List ℕ) (i : ℕ) (x : Event) → bits_meet map set clear (event_entry l i) x ≡ true
     → state_meets set clear (is_flag 2 (flags_in l i)) x.state ≡ true
 unfolding bits_meet event_entry event_from_words flags_in
-first_part map set clear l i x m =
-    and_left (state_meets set clear (is_flag 2 (flags_in l i)) x.state) (asked_met map set clear (event_entry l i) (event_entry l i).detail x) m
+first_part map set clear l i x m = grind arith
 
 -- the masks, of what a state meets
 set_met : (set clear : ℕ) (clause : Bool) (state : ℕ) → set < 8192 → clear < 8192 → state_meets set clear clause state ≡ true
     → bit_and state set ≡ set
 unfolding state_meets
-set_met set clear clause state hs hc m =
-    eqb-true (bit_and state set) set
-    (and_left (eqb (bit_and state set) set) (eqb (bit_and state clear) 0)
-    (sym (bits_met_lem set clear state hs hc) ∙ and_left (bits_met set clear state) (clause_met clause state) m))
+set_met set clear clause state hs hc m = grind (arith, nat_tests, bits_met_lem set clear state hs hc)
 
 has_set : (map l : List ℕ) (i : ℕ) (x : Event) → bit_and x.state (event_entry l i).set ≡ (event_entry l i).set → suits l i (sought_of map x) ≡ true
 unfolding suits sought_of event_entry event_from_words
@@ -158,24 +131,13 @@ module _ (setting : Setting) (x : Event) where
   unfolding detail_seems
   none_asked low e = rw e
 
-  or_assoc : (a b c : Bool) → (b || c) ≡ true → (a || b || c) ≡ true
-  or_assoc true b c e = refl
-  or_assoc false b c e = e
-
   asked_seems : (set clear : ℕ) (colon : Bool) (value low : ℕ) → folded value ≡ fold low → detail_asked setting.keyboard set clear colon value x ≡ true
       → detail_seems low (sought_of setting.keyboard x) ≡ true
   unfolding detail_asked detail_seems sought_of
-  asked_seems set clear colon value low w e = go (leb x.code 3) refl
-    where
-      go : (t : Bool) → leb x.code 3 ≡ t → detail_seems low (sought_of setting.keyboard x) ≡ true
-      go true q =
-          rw (q, ← w)
-          (or_assoc (eqb low 0) (eqb (folded value) (folded (first_keysym setting.keyboard x.detail)))
-          (eqb (folded value) (folded (other (first_keysym setting.keyboard x.detail) (second_keysym setting.keyboard x.detail))))
-          (asked_in (first_keysym setting.keyboard x.detail) (second_keysym setting.keyboard x.detail) value set clear colon x.state (rw q at e)))
-      go false q =
-          let p : x.detail ≡ value = eqb-true x.detail value (rw q at e) in
-          rw (q, p, ← w, eq-eqb (folded value) (folded value) refl) (or_assoc (eqb low 0) true true refl)
+  asked_seems set clear colon value low w e =
+      let k = first_keysym setting.keyboard x.detail in
+      let m = second_keysym setting.keyboard x.detail in
+      grind (arith, nat_tests, w, asked_in k m value set clear colon x.state)
 
   module _ (l : List ℕ) (b : Bytes l) (i : ℕ) (f : EntryFacts l i) (r : EventRanges x) where
     detail_seems_lem : event_meets setting (event_entry l i) x ≡ true → detail_seems (word_at l (lows_at + i)) (sought_of setting.keyboard x) ≡ true
@@ -185,7 +147,7 @@ module _ (setting : Setting) (x : Event) where
         go true q =
             let t = asked setting (event_entry l i) in
             asked_seems t.set t.clear (is_flag 1 (flags_in l i)) (value_in l i) (word_at l (lows_at + i)) (low_is l b i)
-            (meets_detail setting.keyboard t.set t.clear l i x (state_part setting l i x r m) q ∙ bits_part setting l i x r m)
+            (meets_detail setting.keyboard t.set t.clear l i x q (bits_part setting l i x r m))
         go false q = none_asked (word_at l (lows_at + i)) (f.bare q)
 
     -- ---- The event
@@ -194,33 +156,22 @@ module _ (setting : Setting) (x : Event) where
       seems_fits : fits_after setting before (element_of (event_entry l i) 0) x ≡ true → seems l i (sought_of setting.keyboard x) ≡ true
       unfolding fits_after element_of seems
       seems_fits e =
-          let p = chain_parts (eqb (element_code (event_entry l i).code (event_entry l i).count 0) x.code)
-          (event_meets setting (event_entry l i) x ∷ (not (element_of (event_entry l i) 0).timed || quick setting.time before x.time) ∷ []) e in
-          let c : code_seems (word_at l (codes_at + i)) (sought_of setting.keyboard x) ≡ true
-          = rw f.code_word (first_code (event_entry l i).code (event_entry l i).count (sought_of setting.keyboard x) (eqb-true (element_code (event_entry l i).code (event_entry l i).count 0) x.code p.0 ∙ sought_code setting.keyboard x)) in
-          and_both (code_seems (word_at l (codes_at + i)) (sought_of setting.keyboard x)) (detail_seems (word_at l (lows_at + i)) (sought_of setting.keyboard x)) c (detail_seems_lem p.1.0)
+          let c : element_code (event_entry l i).code (event_entry l i).count 0 ≡ x.code = grind (arith, nat_tests) in
+          let m : event_meets setting (event_entry l i) x ≡ true = grind arith in
+          rw (f.code_word, first_code (event_entry l i).code (event_entry l i).count (sought_of setting.keyboard x) (c ∙ sought_code setting.keyboard x)) (detail_seems_lem m)
 
       suits_fits : fits_after setting before (element_of (event_entry l i) 0) x ≡ true → suits l i (sought_of setting.keyboard x) ≡ true
       unfolding fits_after element_of
       suits_fits e =
-          let p = chain_parts (eqb (element_code (event_entry l i).code (event_entry l i).count 0) x.code)
-          (event_meets setting (event_entry l i) x ∷ (not (element_of (event_entry l i) 0).timed || quick setting.time before x.time) ∷ []) e in
-          suits_state setting l i x r f p.1.0
+          let m : event_meets setting (event_entry l i) x ≡ true = grind arith in
+          suits_state setting l i x r f m
 
       -- an event that does not pass does not fit
       pub fits_suits : suits l i (sought_of setting.keyboard x) ≡ false → fits_after setting before (element_of (event_entry l i) 0) x ≡ false
-      fits_suits q = go (fits_after setting before (element_of (event_entry l i) 0) x) refl
-        where
-          go : (t : Bool) → fits_after setting before (element_of (event_entry l i) 0) x ≡ t → t ≡ false
-          go true e = absurd (true≢false (sym (suits_fits e) ∙ q))
-          go false e = refl
+      fits_suits q = grind (arith, suits_fits)
 
       pub fits_seems : seems l i (sought_of setting.keyboard x) ≡ false → fits_after setting before (element_of (event_entry l i) 0) x ≡ false
-      fits_seems q = go (fits_after setting before (element_of (event_entry l i) 0) x) refl
-        where
-          go : (t : Bool) → fits_after setting before (element_of (event_entry l i) 0) x ≡ t → t ≡ false
-          go true e = absurd (true≢false (sym (seems_fits e) ∙ q))
-          go false e = refl
+      fits_seems q = grind (arith, seems_fits)
 
 -- ---- A production
 
@@ -284,27 +235,21 @@ module _ (setting : Setting) (l : List ℕ) (f : TableFacts l) (b : Bytes l) (fi
 
   pub begins_not : may_begin l (sought_of setting.keyboard (x from)) first ≡ false → target setting l first n events from to ≡ Followed.No
   unfolding may_begin
-  begins_not q = go (seems l first (sought_of setting.keyboard (x from))) refl
-    where
-      go : (t : Bool) → seems l first (sought_of setting.keyboard (x from)) ≡ t → target setting l first n events from to ≡ Followed.No
-      go false e = seems_not e
-      go true e = suits_not (rw e at q)
+  begins_not q = elim (and_cases (seems l first (sought_of setting.keyboard (x from))) (suits l first (sought_of setting.keyboard (x from))) q) [
+    | inl e ↦ seems_not e
+    | inr e ↦ suits_not e
+  ]
 
   pub pairs_not : (two : Sought) → from + 1 < to → two ≡ sought_of setting.keyboard (x (from + 1)) → pairs l (sought_of setting.keyboard (x from)) two first ≡ false
       → target setting l first n events from to ≡ Followed.No
   unfolding pairs
-  pairs_not two h et q = go (seems l first (sought_of setting.keyboard (x from))) refl
-    where
-      last : (s : Bool) → eqb (word_at l (counts_at + first)) 1 ≡ s → (not s || seems l (first + 1) two) ≡ false
-          → target setting l first n events from to ≡ Followed.No
-      last true c r =
-          let d : word_at l (counts_at + first) ≡ 1 = eqb-true (word_at l (counts_at + first)) 1 c in
-          second_not (omega arith) h (ap (seems l (first + 1)) (sym et) ∙ r)
-      last false c r = absurd (true≢false r)
-
-      go : (t : Bool) → seems l first (sought_of setting.keyboard (x from)) ≡ t → target setting l first n events from to ≡ Followed.No
-      go false e = seems_not e
-      go true e = last (eqb (word_at l (counts_at + first)) 1) refl (rw e at q)
+  pairs_not two h et q = elim (and_cases (seems l first (sought_of setting.keyboard (x from))) (not (eqb (word_at l (counts_at + first)) 1) || seems l (first + 1) two) q) [
+    | inl e ↦ seems_not e
+    | inr e ↦
+        let d : word_at l (counts_at + first) ≤ 1 = grind (arith, nat_tests) in
+        let n : seems l (first + 1) two ≡ false = grind arith in
+        second_not d h (ap (seems l (first + 1)) (sym et) ∙ n)
+  ]
 
   -- the code alone is another
   pub code_not : code_begins l (sought_of setting.keyboard (x from)) first ≡ false → target setting l first n events from to ≡ Followed.No
@@ -314,12 +259,6 @@ module _ (setting : Setting) (l : List ℕ) (f : TableFacts l) (b : Bytes l) (fi
 -- ---- Where events stand that pass a test
 
 -- what is joined by `|` is at least each of its parts
-or_least_left : (a b : ℕ) → a ≤ bit_or a b
-or_least_left a b = omega (arith, or_add_and a b, and_le_r a b)
-
-or_least_right : (a b : ℕ) → b ≤ bit_or a b
-or_least_right a b = omega (arith, or_add_and a b, and_le_l a b)
-
 module _ (f : ℕ → Bool) where
   -- of the first n events, the number of each that passes is in the joined one
   abbrev pub Joined : (ℕ → ℕ) → (n joined : ℕ) → Type 0
@@ -327,48 +266,22 @@ module _ (f : ℕ → Bool) where
 
   joined_step : (number : ℕ → ℕ) (i joined : ℕ) → Joined number i joined → (t : Bool) → t ≡ f i → (a : ℕ) → a ≡ cond t (number i) 0
       → Joined number (i + 1) (bit_or joined a)
-  joined_step number i joined w t e a ea j h q = go (ltb j i) refl
-    where
-      go : (s : Bool) → ltb j i ≡ s → number j ≤ bit_or joined a
-      go true k = omega (arith, w j (ltb-true j i k) q, or_least_left joined a)
-      go false k =
-          let n : i ≤ j = ltb-false j i k in
-          let m : j ≡ i = omega arith in
-          let u : t ≡ true = e ∙ ap f (sym m) ∙ q in
-          let v : a ≡ number i = ea ∙ ap (λ (s : Bool). cond s (number i) 0) u in
-          rw m (omega (arith, or_least_right joined a))
+  joined_step number i joined w t e a ea j h q = elim (cases_lt j i) [
+    | inl k ↦ omega (arith, w j k q, le_or_l joined a)
+    | inr k ↦
+        let m : j ≡ i = omega arith in
+        let v : a ≡ number i = ea ∙ ap (λ (s : Bool). cond s (number i) 0) (e ∙ ap f (sym m) ∙ q) in
+        rw m (omega (arith, le_or_r joined a))
+  ]
 
-  -- the numbers i + 1
-  abbrev pub Ended : (n high : ℕ) → Type 0
-  Ended = Joined (λ j. j + 1)
-
-  pub ended_start : Ended 0 0
-  ended_start j h e = absurd (omega arith)
-
-  pub ended_step : (i high : ℕ) → Ended i high → (t : Bool) → t ≡ f i → (a : ℕ) → a ≡ cond t (i + 1) 0 → Ended (i + 1) (bit_or high a)
-  ended_step = joined_step (λ j. j + 1)
-
-  pub ended_end : (n m high : ℕ) → Ended n high → n ≡ m → PassersWithin f m 0 high
-  ended_end n m high w e j k q =
-      let p : j < n = omega arith in
-      (omega arith, omega (arith, w j p q))
-
-  -- and the numbers 256 - i
+  -- the numbers i + 1 and 256 - i
   abbrev pub Noted : (n high turned : ℕ) → Type 0
-  Noted n high turned = Ended n high × Joined (λ j. 256 - j) n turned
-
-  pub noted_start : Noted 0 0 0
-  noted_start = (ended_start, λ j h e. absurd (omega arith))
+  Noted n high turned = Joined (λ j. j + 1) n high × Joined (λ j. 256 - j) n turned
 
   pub noted_step : (i high turned : ℕ) → Noted i high turned → (t : Bool) → t ≡ f i → (a b : ℕ) → a ≡ cond t (i + 1) 0
       → b ≡ cond t (256 - i) 0 → Noted (i + 1) (bit_or high a) (bit_or turned b)
   noted_step i high turned w t e a b ea eb =
-      (ended_step i high w.0 t e a ea, joined_step (λ j. 256 - j) i turned w.1 t e b eb)
-
-  pub noted_end : (n m high turned low : ℕ) → Noted n high turned → n ≡ m → low ≤ 256 - turned → PassersWithin f m low high
-  noted_end n m high turned low w e h j k q =
-      let p : j < n = omega arith in
-      (omega (arith, w.1 j p q), omega (arith, w.0 j p q))
+      (joined_step (λ j. j + 1) i high w.0 t e a ea, joined_step (λ j. 256 - j) i turned w.1 t e b eb)
 
 -- an event that does not stand there begins no production along which the stretch reads as a prefix
 pub outside_of : (l map : List ℕ) (events : List Event) (from to : ℕ) (f : ℕ → Bool)
@@ -381,11 +294,7 @@ outside_of l map events from to f none-there low high w =
     }
   where
     out : (i : ℕ) → i < event_total l → ((low ≤ i) × (i < high) → f i ≡ false) → f i ≡ false
-    out i h k = go (f i) refl
-      where
-        go : (t : Bool) → f i ≡ t → f i ≡ false
-        go true e = k (w i h e)
-        go false e = e
+    out i h k = let p = w i h in grind (arith, p, k)
 
 module _ (map l : List ℕ) (f : TableFacts l) (b : Bytes l) (events : List Event) (from to : ℕ) (long : length events ≡ 25) (room : to ≤ 25)
     (m : from < to) (ranges : (j : ℕ) → j < to → EventRanges (get_or events j zero_event)) (one : Sought)

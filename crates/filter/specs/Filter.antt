@@ -14,8 +14,7 @@
 --
 -- events 2 and 4 may begin a production, so one that begins before event 2 is passed over, and so is one that begins at event
 -- 3, which does not seem. No production begins at event 2. The last one alone is walked, and it is selected.
-use Rattle.std.specs.Prelude.{ℕ, ◌+◌, ◌/◌, ◌≤◌, ◌<◌, ◌≡◌, Bool, true, cond, not, ◌&&◌, ◌||◌, List, eqb, leb}
-use Rattle.std.proofs.Math.Option.{none}
+use Rattle.std.specs.Prelude.{ℕ, ◌+◌, ◌/◌, ◌≤◌, ◌<◌, ◌≡◌, Bool, true, cond, not, ◌&&◌, ◌||◌, List, eqb, leb, None}
 use Rattle.std.specs.Int.Bits.{bit_and}
 use Rattle.words.specs.Words.{word_at}
 use Rattle.words.specs.Runs.{run}
@@ -81,6 +80,6 @@ PassersWithin f n low high = (i : ℕ) → i < n → f i ≡ true → (low ≤ i
 -- the keyboard map
 pub record Outside (l map : List ℕ) (xs : List Event) (low high : ℕ) : Type 0 where
   pub before : (setting : Setting) → setting.keyboard ≡ map → (first n : ℕ) → 1 ≤ n → first + n ≤ event_total l → first < low
-      → walked setting none none (expanded (run (event_entry l) first n)) xs ≡ Followed.No
+      → walked setting None None (expanded (run (event_entry l) first n)) xs ≡ Followed.No
   pub after : (setting : Setting) → setting.keyboard ≡ map → (first n : ℕ) → 1 ≤ n → first + n ≤ event_total l → high ≤ first
-      → walked setting none none (expanded (run (event_entry l) first n)) xs ≡ Followed.No
+      → walked setting None None (expanded (run (event_entry l) first n)) xs ≡ Followed.No

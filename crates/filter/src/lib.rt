@@ -1,7 +1,7 @@
 // A quick test of the events of a table, by two words of each: most productions are ruled out by it.
 #![tactic(auto)]
 
-ghost use Rattle.std.specs.Prelude.{◌≡◌, true, false, cond, ◌+◌, ◌-◌, ◌≤◌, ◌<◌, length};
+ghost use Rattle.std.specs.Prelude.{◌≡◌, ℕ, Bool, true, cond, ◌-◌, ◌≤◌, ◌<◌, length};
 ghost use Rattle.records.specs.Ranges.{EventRanges};
 ghost use Rattle.keyboard.specs.Maps.{map_numbers};
 ghost use Rattle.tables.specs.Reading.{event_total};
@@ -28,11 +28,12 @@ fn other(a: u32, b: u32) -> u32
     if b == 0 { a } else { b }
 }
 
+#[tactic(auto, unfolding(crate::specs::Filter::sought_of))]
 pub fn sought_of(maps: &[u8], x: Event) -> Sought
     requires { (length (map_numbers maps.now) ≡ 496) × EventRanges x }
     ensures { result ≡ sought_of (map_numbers maps.now) x }
 {
-    let code = x.code as u16;
+    let code = u16::from(x.code);
     let state = x.state;
     if x.code <= 3 {
         let pair = keyboard::pair_at(maps, x.detail);
@@ -43,7 +44,7 @@ pub fn sought_of(maps: &[u8], x: Event) -> Sought
             second: keyboard::folded(other(pair.first, pair.second)),
         };
     }
-    let detail = keyboard::folded(x.detail as u32);
+    let detail = keyboard::folded(u32::from(x.detail));
     Sought {
         code,
         state,
@@ -54,6 +55,7 @@ pub fn sought_of(maps: &[u8], x: Event) -> Sought
 
 // Whether the codes are the same but for the last bit, as those of a press and its release are: 2 and 3 of keys, 4 and 5 of
 // buttons. A counted release begins with a press. Other codes that pass are told apart by the walk.
+#[tactic(auto, unfolding(crate::specs::Filter::code_seems))]
 fn code_seems(own: u16, s: Sought) -> bool
     ensures { result ≡ code_seems own s }
 {
@@ -61,6 +63,7 @@ fn code_seems(own: u16, s: Sought) -> bool
     own / 2 == code / 2
 }
 
+#[tactic(auto, unfolding(crate::specs::Filter::detail_seems))]
 fn detail_seems(low: u16, s: Sought) -> bool
     ensures { result ≡ detail_seems low s }
 {
@@ -71,6 +74,7 @@ fn detail_seems(low: u16, s: Sought) -> bool
 }
 
 // Whether event i of a table may be met first by what is sought.
+#[tactic(auto, unfolding(crate::specs::Filter::seems))]
 fn seems(table: &[u8], i: usize, s: Sought) -> bool
     requires { (table_length ≤ length table.now) × (i ≤ 256) }
     ensures { result ≡ seems table.now i s }
@@ -81,19 +85,17 @@ fn seems(table: &[u8], i: usize, s: Sought) -> bool
 }
 
 // The same, by the code alone where that is another: one event at a time this is faster.
+#[tactic(auto, unfolding(crate::specs::Filter::seems))]
 pub fn seems_one(table: &[u8], i: usize, s: Sought) -> bool
     requires { (table_length ≤ length table.now) × (i ≤ 256) }
     ensures { result ≡ seems table.now i s }
 {
     let own = words::word_at(table, places::CODES + i);
-    if !code_seems(own, s) {
-        return false;
-    }
-    let low = words::word_at(table, places::LOWS + i);
-    detail_seems(low, s)
+    code_seems(own, s) && detail_seems(words::word_at(table, places::LOWS + i), s)
 }
 
 // Whether the state has the bits that event i asks set. Those that it asks clear are left to the walk.
+#[tactic(auto, unfolding(crate::specs::Filter::suits, tables::specs::Reading::event_entry, tables::specs::Reading::event_from_words))]
 fn suits(table: &[u8], i: usize, s: Sought) -> bool
     requires { (table_length ≤ length table.now) × (i < 256) }
     ensures { result ≡ suits table.now i s }
@@ -103,6 +105,7 @@ fn suits(table: &[u8], i: usize, s: Sought) -> bool
 }
 
 // Whether event i may begin a production for a stretch of one event.
+#[tactic(auto, unfolding(crate::specs::Filter::may_begin))]
 fn begins(table: &[u8], one: Sought, i: usize) -> bool
     requires { (table_length ≤ length table.now) × (i < 256) }
     ensures { result ≡ may_begin table.now one i }
@@ -112,6 +115,7 @@ fn begins(table: &[u8], one: Sought, i: usize) -> bool
 
 // Whether event i may begin a production for a stretch that begins with `one` and goes on with `two`. In a whole table every
 // count is at least 1.
+#[tactic(auto, unfolding(crate::specs::Filter::pairs))]
 fn pairs(table: &[u8], one: Sought, two: Sought, i: usize) -> bool
     requires { (table_length ≤ length table.now) × (i < 256) }
     ensures { result ≡ pairs table.now one two i }
@@ -135,91 +139,69 @@ fn only(own: u16, holds: bool) -> u16
     if holds { own } else { 0 }
 }
 
-// What event i adds to the upper bound, and to the lower one, which is counted back from 256.
-fn end_at(i: usize, holds: bool) -> u16
-    requires { i < 256 }
-    ensures { result ≡ cond holds (i + 1) 0 }
-{
-    let k = i as u16;
-    only(k + 1, holds)
-}
-
-fn turned_at(i: usize, holds: bool) -> u16
-    requires { i < 256 }
-    ensures { result ≡ cond holds (256 - i) 0 }
-{
-    let k = i as u16;
-    only(256 - k, holds)
-}
-
 // The lower bound, by the numbers 256 - i of the events i, joined by `|`. What is joined is at least each of its parts.
 fn low_of(turned: u16) -> u16
     ensures { result ≤ 256 - turned }
 {
-    if turned == 0 {
-        return 0;
+    match turned {
+        1..=256 => 256 - turned,
+        _ => 0,
     }
-    if 256 < turned {
-        return 0;
-    }
-    256 - turned
 }
 
-// Where the events stand that may begin a production for a stretch of one event. No early exit, and no number above 16 bits,
-// so that the loop is compiled to vector instructions.
+// Where those of n events stand that pass a test. No early exit, and no number above 16 bits, so that the loop is compiled to
+// vector instructions.
+fn reach_by<F: Fn(usize) -> bool>(n: usize, test: F) -> Reach
+    requires few { n ≤ 256 }
+    requires callable { (i : ℕ) → i < n → F.pre test i }
+    ensures { (passes : ℕ → Bool) → ((i : ℕ) (r : Bool) → i < n → F.post test i r → r ≡ passes i) → PassersWithin passes n result.low result.high }
+{
+    let mut high: u16 = 0;
+    let mut turned: u16 = 0;
+    for i in 0..n {
+        let holds = test(i);
+        let k = i as u16;
+        high |= only(k + 1, holds);
+        turned |= only(256 - k, holds);
+    }
+    Reach {
+        low: low_of(turned),
+        high,
+    }
+}
+
+// Where the events stand that may begin a production for a stretch of one event.
+#[tactic(auto, using(fields::proofs::TableFacts::table_rules))]
 pub fn reach_alone(table: &[u8], one: Sought) -> Reach
     requires { whole table.now ≡ true }
     ensures { PassersWithin (may_begin table.now one) (event_total table.now) result.low result.high }
 {
-    let n = tables::read::event_count(table);
-    let mut high: u16 = 0;
-    let mut turned: u16 = 0;
-    let mut i: usize = 0;
-    while i < n {
-        let holds = begins(table, one, i);
-        high = high | end_at(i, holds);
-        turned = turned | turned_at(i, holds);
-        i += 1;
-    }
-    Reach {
-        low: low_of(turned),
-        high,
-    }
+    reach_by(tables::read::event_count(table), |i| begins(table, one, i))
 }
 
-// The same for a longer stretch, without the lower bound: mostly there is no such event.
+// The same for a longer stretch, without the lower bound, which is then not worked out: mostly there is no such event.
+#[tactic(auto, using(fields::proofs::TableFacts::table_rules))]
 pub fn reach_paired(table: &[u8], one: Sought, two: Sought) -> Reach
     requires { whole table.now ≡ true }
     ensures { PassersWithin (pairs table.now one two) (event_total table.now) result.low result.high }
 {
-    let n = tables::read::event_count(table);
-    let mut high: u16 = 0;
-    let mut i: usize = 0;
-    while i < n {
-        let holds = pairs(table, one, two, i);
-        high = high | end_at(i, holds);
-        i += 1;
+    Reach {
+        low: 0,
+        ..reach_by(
+            tables::read::event_count(table),
+            |i| pairs(table, one, two, i),
+        )
     }
-    Reach { low: 0, high }
 }
 
 // The same by the code alone: of events other than keys few stand in a table, and one word of each is read.
+#[tactic(auto, using(fields::proofs::TableFacts::table_rules))]
 pub fn reach_of_code(table: &[u8], one: Sought) -> Reach
     requires { whole table.now ≡ true }
     ensures { PassersWithin (code_begins table.now one) (event_total table.now) result.low result.high }
 {
-    let n = tables::read::event_count(table);
-    let mut high: u16 = 0;
-    let mut turned: u16 = 0;
-    let mut i: usize = 0;
-    while i < n {
-        let holds = code_seems(words::word_at(table, places::CODES + i), one);
-        high = high | end_at(i, holds);
-        turned = turned | turned_at(i, holds);
-        i += 1;
-    }
-    Reach {
-        low: low_of(turned),
-        high,
-    }
+    reach_by(
+        tables::read::event_count(table),
+        |i| code_seems(words::word_at(table, places::CODES + i), one),
+    )
 }

@@ -5,7 +5,7 @@ use native.Mathlib.Numerals.{add-one}
 use borrow.Author.Tests.{le-ltb}
 use mathlib.Core.Path.{◌≡◌, sym, ap, ap₂, ◌∙◌}
 use mathlib.Core.Bool.{Bool, true, false, cond}
-use mathlib.Core.Option.{Option, none, some}
+use Rattle.std.specs.Prelude.{Option, None, Some}
 use mathlib.Core.List.{List, [], ◌∷◌, ◌++◌}
 use lib.Dec.{ltb, leb-suc-suc}
 use lib.ListN.{length, get_or, take, drop, length-append, get_or-append}
@@ -19,7 +19,8 @@ use Rattle.counts.proofs.Elements.{element_count_lem, count_at_least}
 use Rattle.counts.proofs.Places.{element_at, timed_later}
 use Rattle.tables.specs.Reading.{event_entry}
 use Rattle.follow.specs.declared.Followed.{Followed}
-use Rattle.states.specs.State.{zero_event}
+use Rattle.states.specs.State.{zero_event, event_in, slots_of}
+use Rattle.states.proofs.SlotLaws.{in_slot}
 use Rattle.follow.specs.Follow.{element_of, fits_after, walked, size_in}
 use Rattle.follow.proofs.EventLaws.{fits_same}
 
@@ -77,7 +78,7 @@ module _ (l : List ℕ) (last : ℕ) where
 
 -- the event d before place i of a stretch, if there is one
 abbrev ago : ℕ → ℕ → Event → Option Event
-ago d i x = cond (ltb i d) none (some x)
+ago d i x = cond (ltb i d) None (Some x)
 
 module _ (setting : Setting) (l : List ℕ) (last : ℕ) (events : List Event) (from to : ℕ) where
   pub rest : ℕ → ℕ → ℕ → Followed
@@ -86,7 +87,7 @@ module _ (setting : Setting) (l : List ℕ) (last : ℕ) (events : List Event) (
       (left l last i k) (drop j (take to events))
 
   pub rest_start : (i : ℕ)
-      → walked setting none none (expanded (run (event_entry l) i (last - i))) (drop from (take to events)) ≡ rest i 0 from
+      → walked setting None None (expanded (run (event_entry l) i (last - i))) (drop from (take to events)) ≡ rest i 0 from
   unfolding rest left
   rest_start i = let z : from - from ≡ 0 = omega arith in rw z
 
@@ -106,7 +107,7 @@ module _ (setting : Setting) (l : List ℕ) (last : ℕ) (events : List Event) (
         let t : j + 1 - from ≡ suc (j - from) = omega arith in
         rw (s, t, leb-suc-suc (suc (j - from)) 1)
 
-    one : (j : ℕ) → from ≤ j → some (get_or events j zero_event) ≡ ago 1 (j + 1 - from) (get_or events (j + 1 - 1) zero_event)
+    one : (j : ℕ) → from ≤ j → Some (get_or events j zero_event) ≡ ago 1 (j + 1 - from) (get_or events (j + 1 - 1) zero_event)
     one j h =
         let s : j + 1 - 1 ≡ j = omega arith in
         rw (s, le-ltb (j + 1 - from) 1 (omega arith))
@@ -153,11 +154,17 @@ module _ (setting : Setting) (l : List ℕ) (last : ℕ) (events : List Event) (
   unfolding rest walked
   rest_whole i k j h e = rw (e, slice_empty to events, left_over l last i k h)
 
+-- what is read of the slots and of the element is what the walk asks
+pub read_fit : (setting : Setting) (bytes : List ℕ) (el : Element) (j at : ℕ) (x b : Event) (r : Bool) → j < 25 → at < 25
+    → x ≡ event_in bytes j → b ≡ event_in bytes at → r ≡ fits_after setting b.time el x
+    → r ≡ fits_after setting (get_or (slots_of bytes) at zero_event).time el (get_or (slots_of bytes) j zero_event)
+read_fit setting bytes el j at x b r h k p q e = rw (← in_slot bytes j h, ← in_slot bytes at k, ← p, ← q) e
+
 -- ---- The walk of a production
 
 module _ (setting : Setting) (l : List ℕ) (first n : ℕ) (events : List Event) (from to : ℕ) where
   abbrev pub target : Followed
-  target = walked setting none none (expanded (run (event_entry l) first n)) (drop from (take to events))
+  target = walked setting None None (expanded (run (event_entry l) first n)) (drop from (take to events))
 
   -- where the walk stands: at element k of event i, and at event j of the stretch
   pub record Walks (i k j : ℕ) : Type 0 where
@@ -179,7 +186,7 @@ module _ (setting : Setting) (l : List ℕ) (first n : ℕ) (events : List Event
         most = m;
         inside = λ q. size_pos l (first + n) first;
         long = h;
-        comes = ap (λ (q : ℕ). walked setting none none (expanded (run (event_entry l) first q)) (drop from (take to events))) e
+        comes = ap (λ (q : ℕ). walked setting None None (expanded (run (event_entry l) first q)) (drop from (take to events))) e
             ∙ rest_start setting l (first + n) events from to first;
       }
 

@@ -1,7 +1,6 @@
 -- How a stretch of events is walked along the elements of a production. walk's proofs/PassLaws shows that this comes to
 -- model's `reads_as_prefix` and `is_whole_sequence`.
-use Rattle.std.specs.Prelude.{ℕ, ◌≤◌, ◌<◌, ◌≡◌, Bool, true, cond, not, ◌&&◌, ◌||◌, List, [], ◌∷◌, eqb, leb, length, get_or}
-use Rattle.std.proofs.Math.Option.{Option, some}
+use Rattle.std.specs.Prelude.{ℕ, ◌≤◌, ◌<◌, ◌≡◌, Bool, true, cond, not, ◌&&◌, ◌||◌, List, [], ◌∷◌, eqb, leb, length, get_or, Option, Some}
 use Rattle.model.specs.Setting.{Setting, first_keysym, second_keysym}
 use Rattle.model.specs.Modifiers.{state_meets}
 use Rattle.model.specs.Asked.{asked, test_met}
@@ -58,7 +57,7 @@ walked setting twoBefore oneBefore [] [] = Followed.Whole
 walked setting twoBefore oneBefore (el ∷ els) [] = Followed.Prefix
 walked setting twoBefore oneBefore [] (x ∷ xs) = Followed.No
 walked setting twoBefore oneBefore (el ∷ els) (x ∷ xs) =
-    cond (fits setting twoBefore el x) (walked setting oneBefore (some x) els xs) Followed.No
+    cond (fits setting twoBefore el x) (walked setting oneBefore (Some x) els xs) Followed.No
 
 -- how many elements event i has
 unfoldable pub size_in : List ℕ → ℕ → ℕ

@@ -2,7 +2,7 @@
 #![tactic(auto)]
 
 ghost use Rattle.std.specs.Prelude.{◌≡◌, true, ℕ, ◌+◌, ◌-◌, ◌≤◌, ◌<◌, length, take, drop};
-ghost use Rattle.std.proofs.Math.Option.{none};
+ghost use Rattle.std.specs.Prelude.{None};
 ghost use Rattle.records.specs.Ranges.{EventRanges};
 ghost use Rattle.tables.specs.Reading.{event_total, event_entry};
 ghost use Rattle.tables.specs.Whole.{whole};
@@ -13,6 +13,7 @@ ghost use Rattle.resolving.specs.Gathering.{MapsReady};
 ghost use Rattle.states.specs.State.{slots_of};
 ghost use Rattle.follow.specs.Follow.{event_meets, detail_asked, bits_meet, element_of, fits_after, walked, size_in, WalkReady};
 
+use keyboard::KeyTest;
 use model::events::Event;
 use states::slots;
 
@@ -27,18 +28,19 @@ pub enum Followed {
 }
 
 // Whether an event has the detail that is asked for: of a key, the keysym under the keyboard map.
-fn detail_met(maps: &[u8], set: u16, clear: u16, colon: bool, value: u32, x: Event) -> bool
+#[tactic(auto, unfolding(crate::specs::Follow::detail_asked))]
+fn detail_met(maps: &[u8], test: KeyTest, x: Event) -> bool
     requires { (length (map_numbers maps.now) ≡ 496) × EventRanges x }
-    ensures { result ≡ detail_asked (map_numbers maps.now) set clear colon value x }
+    ensures { result ≡ detail_asked (map_numbers maps.now) test.set test.clear test.colon test.detail x }
 {
     if x.code <= 3 {
-        let pair = keyboard::pair_at(maps, x.detail);
-        return keyboard::pair_matches(set, clear, colon, pair.first, pair.second, x.state, value);
+        return keyboard::pair_matches(test, keyboard::pair_at(maps, x.detail), x.state);
     }
-    x.detail as u32 == value
+    u32::from(x.detail) == test.detail
 }
 
 // Whether an event meets a test of these bits with the clause, and the detail, of event i of a table.
+#[tactic(auto, using(fields::proofs::TableFacts::table_rules), unfolding(crate::specs::Follow::bits_meet, tables::specs::Reading::event_entry, tables::specs::Reading::event_from_words, fields::specs::Fields::flags_in, fields::specs::Fields::value_in))]
 fn test_meets(table: &[u8], maps: &[u8], i: usize, set: u16, clear: u16, x: Event) -> bool
     requires { ((whole table.now ≡ true) × (i < event_total table.now)) × ((length (map_numbers maps.now) ≡ 496) × EventRanges x) × ((set < 8192) × (clear < 8192)) }
     ensures { result ≡ bits_meet (map_numbers maps.now) set clear (event_entry table.now i) x }
@@ -50,17 +52,17 @@ fn test_meets(table: &[u8], maps: &[u8], i: usize, set: u16, clear: u16, x: Even
     if !fields::is_flag(4, flags) {
         return true;
     }
-    detail_met(
-        maps,
+    let test = KeyTest {
         set,
         clear,
-        fields::is_flag(1, flags),
-        fields::value_at(table, i),
-        x,
-    )
+        colon: fields::is_flag(1, flags),
+        detail: fields::value_at(table, i),
+    };
+    detail_met(maps, test, x)
 }
 
 // Whether an event meets event i of a table, which keeps `!` or names: they are resolved under the maps.
+#[tactic(auto, using(fields::proofs::TableFacts::table_rules))]
 fn named_meets(table: &[u8], maps: &[u8], i: usize, x: Event) -> bool
     requires { ((whole table.now ≡ true) × (i < event_total table.now)) × (MapsReady maps.now × EventRanges x) }
     ensures { (limit : ℕ) → result ≡ event_meets (lent_setting maps.now limit) (event_entry table.now i) x }
@@ -74,6 +76,7 @@ fn named_meets(table: &[u8], maps: &[u8], i: usize, x: Event) -> bool
 
 // Whether an event meets the test and the detail of event i of a table, whatever the multi-click time. Most keep no name, and
 // ask their own bits.
+#[tactic(auto, using(fields::proofs::TableFacts::table_rules))]
 fn event_meets(table: &[u8], maps: &[u8], i: usize, x: Event) -> bool
     requires { ((whole table.now ≡ true) × (i < event_total table.now)) × (MapsReady maps.now × EventRanges x) }
     ensures { (limit : ℕ) → result ≡ event_meets (lent_setting maps.now limit) (event_entry table.now i) x }
@@ -87,6 +90,7 @@ fn event_meets(table: &[u8], maps: &[u8], i: usize, x: Event) -> bool
 }
 
 // Whether event x fits element k of event i of a table. `before` is the time of the event two before it.
+#[tactic(auto, using(fields::proofs::TableFacts::table_rules), unfolding(crate::specs::Follow::fits_after, crate::specs::Follow::element_of))]
 fn element_fits(
     table: &[u8],
     maps: &[u8],
@@ -114,6 +118,7 @@ fn element_fits(
 }
 
 // How many elements event i of a table has.
+#[tactic(auto, using(fields::proofs::TableFacts::table_rules), unfolding(crate::specs::Follow::size_in))]
 fn size_at(table: &[u8], i: usize) -> usize
     requires { (whole table.now ≡ true) × (i < event_total table.now) }
     ensures { result ≡ size_in table.now i }
@@ -135,6 +140,7 @@ fn two_before(j: usize, k: usize) -> usize
 }
 
 // Events from..to against the elements of n events of a table. Most productions are ruled out by the first code.
+#[tactic(auto, using(fields::proofs::TableFacts::table_rules))]
 pub fn follow(
     table: &[u8],
     maps: &[u8],
@@ -146,13 +152,12 @@ pub fn follow(
     to: usize,
 ) -> Followed
     requires { WalkReady table.now maps.now events.now to × (from ≤ to) × (first + n ≤ event_total table.now) }
-    ensures { result ≡ walked (lent_setting maps.now limit) none none (expanded (run (event_entry table.now) first n)) (drop from (take to (slots_of events.now))) }
+    ensures { result ≡ walked (lent_setting maps.now limit) None None (expanded (run (event_entry table.now) first n)) (drop from (take to (slots_of events.now))) }
 {
     let last = first + n;
     let mut i = first;
     let mut k: usize = 0;
-    let mut j = from;
-    while j < to {
+    for j in from..to {
         if last <= i {
             return Followed::No;
         }
@@ -162,7 +167,6 @@ pub fn follow(
         if !element_fits(table, maps, limit, i, k, b.time, x) {
             return Followed::No;
         }
-        j += 1;
         k += 1;
         if k == size_at(table, i) {
             k = 0;

@@ -4,7 +4,7 @@ use Prim.Native.Char.{code}
 use native.Mathlib.Omega.{arith}
 use mathlib.Core.Path.{◌≡◌, refl, sym, ◌∙◌}
 use mathlib.Core.Bool.{Bool, true, false}
-use mathlib.Core.Option.{Option, none, some}
+use Rattle.std.specs.Prelude.{Option, None, Some}
 use mathlib.Core.List.{List, [], ◌∷◌}
 use lib.ListN.{length}
 use Rattle.model.specs.Lists.{part}
@@ -86,8 +86,8 @@ module _ (l : List ℕ) where
 
   data CountView (r : List ℕ) : CountRead → Type 0 where
     broken : CountView r CountRead.Broken
-    absent : {m : List ℕ} {n : ℕ} → Grammar.OptionalCount r none m → At l n m → CountView r (CountRead.Absent n)
-    digits : {m : List ℕ} {a b n : ℕ} {plus : Bool} → Grammar.OptionalCount r (some (record { digits = part l a b; plus = plus })) m → At l n m
+    absent : {m : List ℕ} {n : ℕ} → Grammar.OptionalCount r None m → At l n m → CountView r (CountRead.Absent n)
+    digits : {m : List ℕ} {a b n : ℕ} {plus : Bool} → Grammar.OptionalCount r (Some (record { digits = part l a b; plus = plus })) m → At l n m
         → CountView r (CountRead.Digits a b plus n)
 
   -- up to the digits

@@ -4,7 +4,7 @@ use Prim.Native.Char.{code}
 use native.Mathlib.Omega.{arith}
 use mathlib.Core.Path.{◌≡◌, refl, sym, ◌∙◌}
 use mathlib.Core.Bool.{Bool, true, false, and-false, false≢true}
-use mathlib.Core.Option.{Option, none, some}
+use Rattle.std.specs.Prelude.{Option, None, Some}
 use mathlib.Core.List.{List, [], ◌∷◌, ◌++◌, append-nil}
 use lib.Dec.{eqb}
 use lib.ListN.{length}
@@ -38,10 +38,10 @@ pub cut_off : (l : List ℕ) → CutOff l
 cut_off l = let f = front line_byte l in go f.word f.rest f.run
   where
     go : (w r : List ℕ) → Run line_byte l w r → CutOff l
-    go w [] run = record { line = w; rest = none; cut = Line.last run }
+    go w [] run = record { line = w; rest = None; cut = Line.last run }
     go w (b ∷ r) run =
         let q : b ≡ 10 = eqb-true b 10 (not-false (is_newline b) run.longest) in
-        record { line = w; rest = some r; cut = Line.newline (rw q at run) }
+        record { line = w; rest = Some r; cut = Line.newline (rw q at run) }
 
 pub line_clean : {l w : List ℕ} {r : Option (List ℕ)} → Line l w r → all line_byte w ≡ true
 line_clean (Line.last run) = run.within
@@ -97,15 +97,15 @@ blank_line w = let f = front blank w in go f.word f.rest f.run
 
 -- ---- Directives
 
-pub directive_complete : {w : List ℕ} {d : Model.Directive} → Directive w d → directive_of w ≡ some d
+pub directive_complete : {w : List ℕ} {d : Model.Directive} → Directive w d → directive_of w ≡ Some d
 unfolding directive_of
 directive_complete Directive.replace = refl
 directive_complete Directive.override = refl
 directive_complete Directive.augment = refl
 
 pub data DirectiveView (w : List ℕ) : Option Model.Directive → Type 0 where
-  absent : ((d : Model.Directive) → Directive w d → ⊥) → DirectiveView w none
-  present : {d : Model.Directive} → Directive w d → DirectiveView w (some d)
+  absent : ((d : Model.Directive) → Directive w d → ⊥) → DirectiveView w None
+  present : {d : Model.Directive} → Directive w d → DirectiveView w (Some d)
 
 directive_tests :
     (w : List ℕ) (a b c : Bool) → same w (bytes "#replace") ≡ a → same w (bytes "#override") ≡ b → same w (bytes "#augment") ≡ c
@@ -124,7 +124,7 @@ directive_tests w false false true e f g =
     let x : Directive w Model.Directive.Augment = rw q Directive.augment in
     rw (e, f, g) (present x)
 directive_tests w false false false e f g =
-    let n : directive_of w ≡ none = rw (e, f, g) in
+    let n : directive_of w ≡ None = rw (e, f, g) in
     rw (e, f, g) (absent (λ d x. let z : ◌≡◌ {A = ℕ} 0 1 = cc (n, directive_complete x) in absurd (omega arith)))
 
 pub directive_view : (w : List ℕ) → DirectiveView w (directive_of w)

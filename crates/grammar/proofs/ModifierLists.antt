@@ -4,7 +4,7 @@ use Prim.Native.Char.{code}
 use native.Mathlib.Omega.{arith}
 use mathlib.Core.Path.{◌≡◌, refl, sym, ap, ◌∙◌}
 use mathlib.Core.Bool.{Bool, true, false, not, ◌&&◌, ◌||◌, false≢true}
-use mathlib.Core.Option.{Option, none, some}
+use Rattle.std.specs.Prelude.{Option, None, Some}
 use mathlib.Core.List.{List, [], ◌∷◌}
 use lib.Dec.{eqb}
 use lib.ListN.{length}
@@ -125,8 +125,8 @@ module _ (l : List ℕ) where
   alone_same (Written.Modifier.keysym t w ∷ ms) = alone_same ms
 
   pub data ListRead (r j : List ℕ) : Option Written.ModifierList → Type 0 where
-    refused : ListRead r j none
-    list : {ml : Written.ModifierList} → Grammar.DerivesModifierList r ml j → ListRead r j (some ml)
+    refused : ListRead r j None
+    list : {ml : Written.ModifierList} → Grammar.DerivesModifierList r ml j → ListRead r j (Some ml)
 
   or_second : (a b : Bool) → (a || b || false) ≡ true → a ≡ false → b ≡ true
   or_second true b e f = absurd (false≢true (sym f))
@@ -190,11 +190,11 @@ module _ (l : List ℕ) where
     pub next : ℕ
     pub leads : lead_at l p ≡ lead
     pub reads : modifiers_at l lead.next ≡ Written.Modifiers.modifiers ms next
-    pub lists : list_of lead.bang lead.colon ms ≡ some ml
+    pub lists : list_of lead.bang lead.colon ms ≡ Some ml
     pub at : At l next (code "<" ∷ m)
 
   lone_complete :
-      (word : List ℕ) (ml : Written.ModifierList) → list_of false false (Written.Modifier.name false word ∷ []) ≡ some ml
+      (word : List ℕ) (ml : Written.ModifierList) → list_of false false (Written.Modifier.name false word ∷ []) ≡ Some ml
       → {r s j m : List ℕ} (p : ℕ) → At l p r → Blanks r s → Word letter_or_digit s word j → Sign "<" j m → ListGot p ml m
   unfolding lead_at lead_from lead_colon
   lone_complete word ml e {r} {s} {j} {m} p x y w t =

@@ -2,7 +2,7 @@
 use Prim.Native.Nat.{ℕ}
 use native.Mathlib.Omega.{arith}
 use mathlib.Core.Path.{◌≡◌, refl, sym, ap, ◌∙◌}
-use mathlib.Core.Option.{Option, none, some}
+use Rattle.std.specs.Prelude.{Option, None, Some}
 use mathlib.Core.List.{List, [], ◌∷◌}
 use Rattle.model.specs.Events.{WrittenEvent}
 use Rattle.model.specs.Calls.{WrittenCall}
@@ -38,12 +38,12 @@ line_same (Line.newline {w = w} {r = r} x) (Line.last {w = v} y) =
 line_same (Line.newline {w = w} {r = r} x) (Line.newline {w = v} {r = s} y) =
     let i : 10 ∷ r ≡ 10 ∷ s = (run_same w v x y).rest in
     let j : r ≡ s = cc in
-    record { line = (run_same w v x y).word; rest = ap {B = Option (List ℕ)} some j }
+    record { line = (run_same w v x y).word; rest = ap {B = Option (List ℕ)} Some j }
 
 -- ---- Texts
 
 module _ (text : List ℕ) where
-  lines_same : {s : Option (List ℕ)} {ds es : List Derived} → Lines text s ds none → Lines text s es none → ds ≡ es
+  lines_same : {s : Option (List ℕ)} {ds es : List Derived} → Lines text s ds None → Lines text s es None → ds ≡ es
   lines_same Lines.done Lines.done = refl
   lines_same (Lines.blanks c b x) (Lines.blanks d e y) =
       lines_same x (rw (sym (line_same c d).rest) at y)
@@ -61,17 +61,17 @@ module _ (text : List ℕ) where
 
   -- a text that begins with a directive derives nothing without it
   plain_directed :
-      {w : List ℕ} {r : Option (List ℕ)} {d : Model.Directive} {ds : List Derived} → Lines text (some text) ds none → Line text w r → Directive w d → ⊥
+      {w : List ℕ} {r : Option (List ℕ)} {d : Model.Directive} {ds : List Derived} → Lines text (Some text) ds None → Line text w r → Directive w d → ⊥
   plain_directed (Lines.blanks c b x) e y = directive_no_blanks y (rw (line_same c e).line at b)
   plain_directed (Lines.production c p x) e y = directive_no_production y (rw (line_same c e).line at p)
 
   directive_same : {w v : List ℕ} {d e : Model.Directive} → w ≡ v → Directive w d → Directive v e → d ≡ e
   directive_same {w} {v} {d} {e} i x y =
-      let j : some d ≡ some e = sym (directive_complete x) ∙ ap directive_of i ∙ directive_complete y in
+      let j : Some d ≡ Some e = sym (directive_complete x) ∙ ap directive_of i ∙ directive_complete y in
       cc
 
   pub one_text_lem :
-      {d e : Model.Directive} {ds es : List Derived} → TranslationTable text d ds none → TranslationTable text e es none
+      {d e : Model.Directive} {ds es : List Derived} → TranslationTable text d ds None → TranslationTable text e es None
       → (d ≡ e) × (ds ≡ es)
   one_text_lem (TranslationTable.plain x) (TranslationTable.plain y) = (refl, lines_same x y)
   one_text_lem (TranslationTable.plain x) (TranslationTable.directed c b y) = absurd (plain_directed x c b)

@@ -4,7 +4,7 @@ use native.Mathlib.Omega.{arith}
 use native.Mathlib.Numerals.{add-one}
 use mathlib.Core.Path.{◌≡◌, refl, sym, ap, ◌∙◌}
 use mathlib.Core.Bool.{Bool, true, false, cond}
-use mathlib.Core.Option.{Option, none, some}
+use Rattle.std.specs.Prelude.{Option, None, Some}
 use mathlib.Core.List.{List, [], ◌∷◌, ◌++◌, append-nil}
 use lib.Dec.{eqb}
 use lib.ListN.{length}
@@ -27,10 +27,10 @@ use Rattle.grammar.proofs.Productions.{line_complete}
 use Rattle.grammar.proofs.Kept.{events_kept, passes_less}
 use Rattle.grammar.proofs.Lines.{at_line, at_place, go_on_last, go_on_next, at_next_line, line_shorter, blank_line, directive_complete, DirectiveView, directive_view, directive_no_production, directive_no_blanks, blanks_no_production}
 
-directive_none : (w : List ℕ) → ((d : Model.Directive) → Directive w d → ⊥) → directive_of w ≡ none
+directive_none : (w : List ℕ) → ((d : Model.Directive) → Directive w d → ⊥) → directive_of w ≡ None
 directive_none w n = go (directive_of w) (directive_view w)
   where
-    go : (o : Option Model.Directive) → DirectiveView w o → o ≡ none
+    go : (o : Option Model.Directive) → DirectiveView w o → o ≡ None
     go o (DirectiveView.absent f) = refl
     go o (DirectiveView.present {d = d} x) = absurd (n d x)
 
@@ -50,11 +50,11 @@ module _ (text : List ℕ) where
 
   pub no_directive :
       {l w : List ℕ} {r : Option (List ℕ)} (p : ℕ) → At text p l → Line l w r
-      → (start_in_text text l ≡ 0 → (d : Model.Directive) → Directive w d → ⊥) → directive_at text p ≡ none
+      → (start_in_text text l ≡ 0 → (d : Model.Directive) → Directive w d → ⊥) → directive_at text p ≡ None
   unfolding directive_at
   no_directive {l} {w} p x c n = go (eqb p 0) refl
     where
-      go : (t : Bool) → eqb p 0 ≡ t → cond (eqb p 0) (directive_of (line_at text 0)) none ≡ none
+      go : (t : Bool) → eqb p 0 ≡ t → cond (eqb p 0) (directive_of (line_at text 0)) None ≡ None
       go true e =
           let i : p ≡ 0 = eqb-true p 0 e in
           let j : start_in_text text l ≡ 0 = sym (at_place text p x) ∙ i in
@@ -64,13 +64,13 @@ module _ (text : List ℕ) where
 
   pub step_blank :
       {l w : List ℕ} {r : Option (List ℕ)} (f p : ℕ) (d : Model.Directive) (ps : List Tables.Production) → At text p l → Line l w r
-      → directive_at text p ≡ none → all blank w ≡ true → lines_from (suc f) text p d ps ≡ go_on text (line_end text p) d ps (onward f)
+      → directive_at text p ≡ None → all blank w ≡ true → lines_from (suc f) text p d ps ≡ go_on text (line_end text p) d ps (onward f)
   unfolding lines_from
   step_blank {l} {w} f p d ps x c n b = rw (n, at_line text p x c, blank_line w, b)
 
   pub step_line :
       {l w : List ℕ} {r : Option (List ℕ)} (f p : ℕ) (d : Model.Directive) (ps : List Tables.Production) → At text p l → Line l w r
-      → directive_at text p ≡ none → all blank w ≡ false
+      → directive_at text p ≡ None → all blank w ≡ false
       → lines_from (suc f) text p d ps ≡ after_line text p d ps (line_outcome ps p w) (onward f)
   unfolding lines_from
   step_line {l} {w} f p d ps x c n b = rw (n, at_line text p x c, blank_line w, b)
@@ -96,8 +96,8 @@ module _ (text : List ℕ) where
 
   -- x is what comes of the text once its lines up to s are read
   pub data Reached (d : Model.Directive) (ps : List Tables.Production) (x : Outcome) : Option (List ℕ) → Type 0 where
-    ended : x ≡ accepted (table_of text d ps) → Reached d ps x none
-    going : {l : List ℕ} (fuel p : ℕ) → At text p l → length l < fuel → x ≡ lines_from fuel text p d ps → Reached d ps x (some l)
+    ended : x ≡ accepted (table_of text d ps) → Reached d ps x None
+    going : {l : List ℕ} (fuel p : ℕ) → At text p l → length l < fuel → x ≡ lines_from fuel text p d ps → Reached d ps x (Some l)
 
   after_line_lem :
       {l w : List ℕ} {r : Option (List ℕ)} (f p : ℕ) (d : Model.Directive) (ps : List Tables.Production) (x : Outcome) → At text p l → Line l w r

@@ -3,7 +3,7 @@ use Prim.Native.Nat.{ℕ, zero, suc, ◌+◌, ◌≤◌, ◌<◌}
 use native.Mathlib.Omega.{arith}
 use mathlib.Core.Path.{◌≡◌, refl, sym, ap, ◌∙◌}
 use mathlib.Core.Bool.{Bool, true, false, not}
-use mathlib.Core.Option.{Option, none, some}
+use Rattle.std.specs.Prelude.{Option, None, Some}
 use mathlib.Core.List.{List, [], ◌∷◌, ◌++◌, append-nil}
 use lib.Dec.{ltb}
 use lib.ListN.{length}
@@ -32,20 +32,20 @@ use Rattle.grammar.proofs.Steps.{production_not_blank, onward, no_directive, ste
 
 -- ---- Numbers 2 and 3
 
-bad_none : (i : ℕ) (l : List ℕ) → all allowed_byte l ≡ true → earliest (λ b. not (is_allowed b)) i l ≡ none
+bad_none : (i : ℕ) (l : List ℕ) → all allowed_byte l ≡ true → earliest (λ b. not (is_allowed b)) i l ≡ None
 unfolding is_allowed
 bad_none i [] e = refl
 bad_none i (b ∷ l) e = rw (and_left (allowed_byte b) (all allowed_byte l) e) (bad_none (suc i) l (and_right (allowed_byte b) (all allowed_byte l) e))
 
 bad_some :
     (i : ℕ) (w : List ℕ) (b : ℕ) (r : List ℕ) → all allowed_byte w ≡ true → allowed_byte b ≡ false
-    → earliest (λ b. not (is_allowed b)) i (w ++ b ∷ r) ≡ some (i + length w)
+    → earliest (λ b. not (is_allowed b)) i (w ++ b ∷ r) ≡ Some (i + length w)
 unfolding is_allowed
-bad_some i [] b r e f = rw f (ap {B = Option ℕ} some (let z : i ≡ i + 0 = omega arith in z))
+bad_some i [] b r e f = rw f (ap {B = Option ℕ} Some (let z : i ≡ i + 0 = omega arith in z))
 bad_some i (c ∷ w) b r e f =
     rw (and_left (allowed_byte c) (all allowed_byte w) e)
     (bad_some (suc i) w b r (and_right (allowed_byte c) (all allowed_byte w) e) f
-    ∙ ap {B = Option ℕ} some (let z : suc i + length w ≡ i + suc (length w) = omega arith in z))
+    ∙ ap {B = Option ℕ} Some (let z : suc i + length w ≡ i + suc (length w) = omega arith in z))
 
 module _ (text : List ℕ) where
   compile_lines : Allowed text → compiled text ≡ lines_of text
@@ -60,9 +60,9 @@ module _ (text : List ℕ) where
       {w r : List ℕ} {b : ℕ} → length text ≤ text_limit → Run allowed_byte text w (b ∷ r) → compiled text ≡ refused Numbers.bad_byte (length w)
   unfolding compiled first_bad_byte
   compile_bad {w} {r} {b} h run =
-      let e : earliest (λ b. not (is_allowed b)) 0 text ≡ some (length w)
+      let e : earliest (λ b. not (is_allowed b)) 0 text ≡ Some (length w)
       = ap (earliest (λ b. not (is_allowed b)) 0) run.split ∙ bad_some 0 w b r run.within run.longest
-      ∙ ap {B = Option ℕ} some (let z : 0 + length w ≡ length w = omega arith in z) in
+      ∙ ap {B = Option ℕ} Some (let z : 0 + length w ≡ length w = omega arith in z) in
       rw (le-ltb text_limit (length text) h, e)
 
   -- ---- What the relation says is what comes of a text
@@ -100,12 +100,12 @@ module _ (text : List ℕ) where
       {l w : List ℕ} {r : Option (List ℕ)} {d : Model.Directive} {ps : List Tables.Production} {x : Outcome} (n : ℕ) → Line l w r → all blank w ≡ false
       → (start_in_text text l ≡ 0 → (e : Model.Directive) → Directive w e → ⊥)
       → ((f p : ℕ) → p ≡ start_in_text text l → after_line text p d ps (line_outcome ps p w) (onward text f) ≡ refused n p)
-      → Reached text d ps x (some l) → x ≡ refused n (start_in_text text l)
+      → Reached text d ps x (Some l) → x ≡ refused n (start_in_text text l)
   stops n c b nd g (Reached.going zero p a h q) = absurd (omega arith)
   stops {l} {w} {r} {d} {ps} {x} n c b nd g (Reached.going (suc f) p a h q) =
       q ∙ step_line text f p d ps a c (no_directive text p a c nd) b ∙ g f p (at_place text p a) ∙ ap (refused n) (at_place text p a)
 
-  ends : {d : Model.Directive} {ps : List Tables.Production} {x : Outcome} → Reached text d ps x none → x ≡ accepted (table_of text d ps)
+  ends : {d : Model.Directive} {ps : List Tables.Production} {x : Outcome} → Reached text d ps x None → x ≡ accepted (table_of text d ps)
   ends (Reached.ended q) = q
 
   pub complete : {o : Outcome} → Compiles text o → compiled text ≡ o
@@ -148,7 +148,7 @@ module _ (text : List ℕ) where
   kept_append (ProductionsKept.more k ks) rest = ProductionsKept.more k (kept_append ks rest)
 
   upto_blank :
-      {l w : List ℕ} {r : Option (List ℕ)} {d : Model.Directive} {ps : List Tables.Production} → Upto text (some l) d ps → Line l w r
+      {l w : List ℕ} {r : Option (List ℕ)} {d : Model.Directive} {ps : List Tables.Production} → Upto text (Some l) d ps → Line l w r
       → all blank w ≡ true → Upto text r d ps
   upto_blank {r = r} {d = d} u c b =
       let t : TranslationTable text d (u.derived ++ []) r = table_append u.table (Lines.blanks c b Lines.done) in
@@ -156,7 +156,7 @@ module _ (text : List ℕ) where
 
   upto_production :
       {l w : List ℕ} {r : Option (List ℕ)} {d : Model.Directive} {ps : List Tables.Production} {es : List WrittenEvent} {cs : List WrittenCall}
-      {ks : List KeptEvent} → Upto text (some l) d ps → Line l w r → DerivesProduction w es cs → EventsKept es ks
+      {ks : List KeptEvent} → Upto text (Some l) d ps → Line l w r → DerivesProduction w es cs → EventsKept es ks
       → passes_limit (ps ++ (production_of (start_in_text text l) ks cs ∷ [])) ≡ false
       → Upto text r d (ps ++ (production_of (start_in_text text l) ks cs ∷ []))
   upto_production {l} {w} {r} {d} {ps} {es} {cs} u c y k e =
@@ -171,7 +171,7 @@ module _ (text : List ℕ) where
     -- reading on with less fuel is sound
     Further : ℕ → Type 0
     Further f =
-        (p : ℕ) (l : List ℕ) (d : Model.Directive) (ps : List Tables.Production) → 0 < p → At text p l → length l < f → Upto text (some l) d ps
+        (p : ℕ) (l : List ℕ) (d : Model.Directive) (ps : List Tables.Production) → 0 < p → At text p l → length l < f → Upto text (Some l) d ps
         → Compiles text (lines_from f text p d ps)
 
     go_on_sound :
@@ -184,19 +184,19 @@ module _ (text : List ℕ) where
         (ih (line_end text p + 1) r d ps (omega arith) (at_next_line text p a run) (omega (arith, line_shorter run)) u)
 
     none_first :
-        {l w : List ℕ} {r : Option (List ℕ)} (p : ℕ) → At text p l → Line l w r → directive_at text p ≡ none → start_in_text text l ≡ 0 → (d : Model.Directive)
+        {l w : List ℕ} {r : Option (List ℕ)} (p : ℕ) → At text p l → Line l w r → directive_at text p ≡ None → start_in_text text l ≡ 0 → (d : Model.Directive)
         → Directive w d → ⊥
     unfolding directive_at
     none_first {l} {w} p a c n z d x =
         let i : p ≡ 0 = at_place text p a ∙ z in
         let j : line_at text 0 ≡ w = at_line text 0 (rw i at a) c in
-        let k : directive_of (line_at text 0) ≡ none = rw i at n in
+        let k : directive_of (line_at text 0) ≡ None = rw i at n in
         let m : ◌≡◌ {A = ℕ} 0 1 = cc (sym k ∙ ap directive_of j ∙ directive_complete x) in
         omega arith
 
     -- a line that is not blank
     module _ {l w : List ℕ} {r : Option (List ℕ)} (f p : ℕ) (d : Model.Directive) (ps : List Tables.Production) (ih : Further f) (a : At text p l)
-        (h : length l < suc f) (c : Line l w r) (u : Upto text (some l) d ps) where
+        (h : length l < suc f) (c : Line l w r) (u : Upto text (Some l) d ps) where
       room_sound :
           {es : List WrittenEvent} {cs : List WrittenCall} {ks : List KeptEvent} → DerivesProduction w es cs → EventsKept es ks → (t : Bool)
           → passes_limit (ps ++ (production_of (start_in_text text l) ks cs ∷ [])) ≡ t
@@ -215,7 +215,7 @@ module _ (text : List ℕ) where
       events_sound {cs = cs} y (JudgedView.kept {ks = ks} k) = room_sound y k (passes_limit (ps ++ (production_of (start_in_text text l) ks cs ∷ []))) refl
 
       read_sound :
-          directive_at text p ≡ none → all blank w ≡ false → (x : LineRead) → line_read w ≡ x → LineView w x
+          directive_at text p ≡ None → all blank w ≡ false → (x : LineRead) → line_read w ≡ x → LineView w x
           → Compiles text (after_line text p d ps (line_outcome ps p w) (onward text f))
       read_sound n b x e LineView.broken =
           rw (no_line w p d ps f e, at_place text p a)
@@ -229,14 +229,14 @@ module _ (text : List ℕ) where
 
     line_step :
         {l : List ℕ} (f p : ℕ) (d : Model.Directive) (ps : List Tables.Production) → Further f → At text p l → length l < suc f
-        → directive_at text p ≡ none → Upto text (some l) d ps → (w : List ℕ) (r : Option (List ℕ)) → Line l w r → (t : Bool) → all blank w ≡ t
+        → directive_at text p ≡ None → Upto text (Some l) d ps → (w : List ℕ) (r : Option (List ℕ)) → Line l w r → (t : Bool) → all blank w ≡ t
         → Compiles text (lines_from (suc f) text p d ps)
     line_step f p d ps ih a h n u w r c true e =
         rw (step_blank text f p d ps a c n e) (go_on_sound f p d ps ih a h c (upto_blank u c e))
     line_step f p d ps ih a h n u w r c false e =
         rw (step_line text f p d ps a c n e) (read_sound f p d ps ih a h c u n e (line_read w) refl (line_sound w (line_clean c)))
 
-    later : (p : ℕ) → 0 < p → directive_at text p ≡ none
+    later : (p : ℕ) → 0 < p → directive_at text p ≡ None
     unfolding directive_at
     later p h = rw (ne_eqb p 0 (λ (q : p ≡ 0). omega arith))
 
@@ -251,7 +251,7 @@ module _ (text : List ℕ) where
     unfolding passes_limit totals_pass
     empty_limits = refl
 
-    upto_start : Upto text (some text) Model.Directive.Replace []
+    upto_start : Upto text (Some text) Model.Directive.Replace []
     upto_start = record { derived = []; table = TranslationTable.plain Lines.done; kept = ProductionsKept.nothing; limits = empty_limits }
 
     first_sound :

@@ -1,7 +1,6 @@
 -- Document 01, "Numbers handed back": what a text compiles to, as a relation over what the grammar derives from it.
 -- Exact ties it to model's `compiled`, whose recursion with fuel need then not be believed.
-use Rattle.std.specs.Prelude.{ℕ, ◌≤◌, ◌<◌, ◌≡◌, true, false, List, [], ◌∷◌, ◌++◌, map, length}
-use Rattle.std.proofs.Math.Option.{Option, none, some}
+use Rattle.std.specs.Prelude.{ℕ, ◌≤◌, ◌<◌, ◌≡◌, true, false, List, [], ◌∷◌, ◌++◌, map, length, Option, None, Some}
 use Rattle.model.specs.Limits.{text_limit}
 use Rattle.model.specs.Numbers as Numbers
 use Rattle.model.specs.Lists.{all}
@@ -82,20 +81,20 @@ module _ (text : List ℕ) where
     bad_byte : {w r : List ℕ} {b : ℕ} → length text ≤ text_limit → Run allowed_byte text w (b ∷ r) → Compiles (refused Numbers.bad_byte (length w))
     -- 4: line not in the grammar
     not_grammar : {l w : List ℕ} {r : Option (List ℕ)} {d : Model.Directive} {ps : List Tables.Production}
-        → Allowed → Upto (some l) d ps → Line l w r → NotDerived l w → Compiles (refused Numbers.not_grammar (start_in_text text l))
+        → Allowed → Upto (Some l) d ps → Line l w r → NotDerived l w → Compiles (refused Numbers.not_grammar (start_in_text text l))
     -- 5..10
     refused_event : {l w : List ℕ} {r : Option (List ℕ)} {d : Model.Directive} {ps : List Tables.Production}
         {es : List WrittenEvent} {cs : List WrittenCall} {n : ℕ}
-        → Allowed → Upto (some l) d ps → Line l w r → DerivesProduction w es cs → EventsRefused es n → Compiles (refused n (start_in_text text l))
+        → Allowed → Upto (Some l) d ps → Line l w r → DerivesProduction w es cs → EventsRefused es n → Compiles (refused n (start_in_text text l))
     -- 11: a limit passed
     past_limit : {l w : List ℕ} {r : Option (List ℕ)} {d : Model.Directive} {ps : List Tables.Production}
         {es : List WrittenEvent} {cs : List WrittenCall} {ks : List KeptEvent}
-        → Allowed → Upto (some l) d ps → Line l w r → DerivesProduction w es cs → EventsKept es ks
+        → Allowed → Upto (Some l) d ps → Line l w r → DerivesProduction w es cs → EventsKept es ks
         → passes_limit (ps ++ (production_of (start_in_text text l) ks cs ∷ [])) ≡ true → Compiles (refused Numbers.past_limit (start_in_text text l))
     -- 11, R-1: "over four different keysyms in an event"
     crowded_event : {l w : List ℕ} {r : Option (List ℕ)} {d : Model.Directive} {ps : List Tables.Production}
         {es : List WrittenEvent} {cs : List WrittenCall}
-        → Allowed → Upto (some l) d ps → Line l w r → DerivesProduction w es cs → EventsCrowded es
+        → Allowed → Upto (Some l) d ps → Line l w r → DerivesProduction w es cs → EventsCrowded es
         → Compiles (refused Numbers.past_limit (start_in_text text l))
     -- 0: accepted
-    accept : {d : Model.Directive} {ps : List Tables.Production} → Allowed → Upto none d ps → Compiles (accepted (table_of text d ps))
+    accept : {d : Model.Directive} {ps : List Tables.Production} → Allowed → Upto None d ps → Compiles (accepted (table_of text d ps))

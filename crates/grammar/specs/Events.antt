@@ -1,6 +1,5 @@
 -- Appendix B, event: modifiers, `<type>`, count and detail.
-use Rattle.std.specs.Prelude.{ℕ, ◌≡◌, Bool, false, List}
-use Rattle.std.proofs.Math.Option.{Option, none, some}
+use Rattle.std.specs.Prelude.{ℕ, ◌≡◌, Bool, false, List, Option, None, Some}
 use Rattle.model.specs.Bytes.{is_code}
 use Rattle.model.specs.Events.{Count, Written}
 use Rattle.model.specs.Events as Model
@@ -16,10 +15,10 @@ pub data DerivesEventType : List ℕ → List ℕ → List ℕ → Type 0 where
 -- [ "(" count["+"] ")" ]
 pub data OptionalCount : List ℕ → Option Count → List ℕ → Type 0 where
   -- no count: "After `>`, an opening bracket always begins a count"
-  absent : {l r : List ℕ} → Blanks l r → begins_with (λ b. is_code b "(") r ≡ false → OptionalCount l none r
+  absent : {l r : List ℕ} → Blanks l r → begins_with (λ b. is_code b "(") r ≡ false → OptionalCount l None r
   -- "(" count["+"] ")", count = ("1" | "2" | "3" | "4" | ...): "at least one digit, then perhaps `+`"; its value is judged later, by number 6
   present : {l m n k j r w : List ℕ} {plus : Bool} → Sign "(" l m → Blanks m n → Word is_digit_sign n w k → Optional "+" k plus j → Sign ")" j r
-      → OptionalCount l (some (record { digits = w; plus = plus })) r
+      → OptionalCount l (Some (record { digits = w; plus = plus })) r
 
 -- {detail}
 pub data DerivesDetail : List ℕ → List ℕ → List ℕ → Type 0 where

@@ -1,8 +1,7 @@
 -- Demand 2: texts are accepted exactly by the syntax of Appendix B as document 01 narrows it, each with one reading.
 -- This is about the definitions of the crate model, which the compiler's contract cites. proofs/Exact shows it. So a reader who believes
 -- the relation `Compiles` and the statements here need not believe the recursion with fuel in model's Events, Calls and Compiling.
-use Rattle.std.specs.Prelude.{ℕ, ◌+◌, ◌≡◌, ◌↔◌, true, List, ◌++◌}
-use Rattle.std.proofs.Math.Option.{Option, none, some}
+use Rattle.std.specs.Prelude.{ℕ, ◌+◌, ◌≡◌, ◌↔◌, true, List, ◌++◌, Option, None, Some}
 use Rattle.model.specs.Numbers as Numbers
 use Rattle.model.specs.Lists.{all, part}
 use Rattle.model.specs.Events.{WrittenEvent}
@@ -22,7 +21,7 @@ pub record Accepts (text : List ℕ) (t : Tables.Table) : Type 0 where
   pub allowed : Allowed text
   pub directive : Model.Directive
   pub productions : List Tables.Production
-  pub derived : Upto text none directive productions
+  pub derived : Upto text None directive productions
   pub table : t ≡ table_of text directive productions
 
 -- the line that begins at a place is the first that the grammar does not derive, and none before it is refused
@@ -31,7 +30,7 @@ pub record FirstNotDerived (text : List ℕ) (place : ℕ) : Type 0 where
   pub directive : Model.Directive
   pub productions : List Tables.Production
   pub rest : List ℕ
-  pub before : Upto text (some rest) directive productions
+  pub before : Upto text (Some rest) directive productions
   pub line : List ℕ
   pub after : Option (List ℕ)
   pub cut : Line rest line after
@@ -46,7 +45,7 @@ pub record Exact : Type 0 where
   pub one_line : (l : List ℕ) (es fs : List WrittenEvent) (cs ds : List WrittenCall) → DerivesProduction l es cs → DerivesProduction l fs ds
       → (es ≡ fs) × (cs ≡ ds)
   -- one reading of a text
-  pub one_text : (text : List ℕ) (d e : Model.Directive) (ds es : List Derived) → TranslationTable text d ds none → TranslationTable text e es none
+  pub one_text : (text : List ℕ) (d e : Model.Directive) (ds es : List Derived) → TranslationTable text d ds None → TranslationTable text e es None
       → (d ≡ e) × (ds ≡ es)
   -- a text comes to what the numbers of 01 say over what the grammar derives from it, and to nothing else
   pub outcome : (text : List ℕ) (o : Outcome) → (compiled text ≡ o) ↔ Compiles text o

@@ -1,7 +1,6 @@
 -- Lines on each side of the points at which document 01 narrows Appendix B. proofs/Examples shows each of them.
-use Rattle.std.specs.Prelude.{ℕ, false, List, [], ◌∷◌}
+use Rattle.std.specs.Prelude.{ℕ, false, List, [], ◌∷◌, None}
 use Prim.Native.String.{String}
-use Rattle.std.proofs.Math.Option.{none}
 use Rattle.model.specs.Lists.{bytes}
 use Rattle.model.specs.Events.{Modifier, ModifierList, WrittenEvent}
 use Rattle.model.specs.Calls.{WrittenCall}
@@ -59,7 +58,7 @@ example_line = bytes "s<Key>a, \"^b\": f(x) g()"
 abbrev pub example_events : List WrittenEvent
 example_events =
     WrittenEvent.event
-    (record { list = ModifierList.listed false false (Modifier.name false (bytes "s") ∷ []); type_name = bytes "Key"; count = none; detail = bytes "a" })
+    (record { list = ModifierList.listed false false (Modifier.name false (bytes "s") ∷ []); type_name = bytes "Key"; count = None; detail = bytes "a" })
     ∷ WrittenEvent.key (record { mark = KeyMark.Control; byte = 98 })
     ∷ []
 

@@ -1,6 +1,5 @@
 -- Appendix B, translationTable: a text, line by line.
-use Rattle.std.specs.Prelude.{ℕ, ◌-◌, ◌≡◌, true, List, [], ◌∷◌, length}
-use Rattle.std.proofs.Math.Option.{Option, none, some}
+use Rattle.std.specs.Prelude.{ℕ, ◌-◌, ◌≡◌, true, List, [], ◌∷◌, length, Option, None, Some}
 use Rattle.model.specs.Lists.{bytes, all}
 use Rattle.model.specs.Events.{WrittenEvent}
 use Rattle.model.specs.Calls.{WrittenCall}
@@ -13,9 +12,9 @@ use Rattle.grammar.specs.Productions.{DerivesProduction}
 -- So the newline of `directive` and of `production` is this one, and the last line may lack it.
 pub data Line : List ℕ → List ℕ → Option (List ℕ) → Type 0 where
   -- the end of the text
-  last : {l w : List ℕ} → Run line_byte l w [] → Line l w none
+  last : {l w : List ℕ} → Run line_byte l w [] → Line l w None
   -- "\n"
-  newline : {l w r : List ℕ} → Run line_byte l w (10 ∷ r) → Line l w (some r)
+  newline : {l w r : List ℕ} → Run line_byte l w (10 ∷ r) → Line l w (Some r)
 
 -- directive = ( "#replace" | "#override" | "#augment" ) "\n"
 -- "`#replace`, `#override` or `#augment` may stand as the whole first line, from byte 0"
@@ -43,16 +42,16 @@ module _ (text : List ℕ) where
     -- no further line up to s
     done : {s : Option (List ℕ)} → Lines s [] s
     -- "Lines of blanks are skipped."
-    blanks : {l w : List ℕ} {r s : Option (List ℕ)} {ds : List Derived} → Line l w r → all blank w ≡ true → Lines r ds s → Lines (some l) ds s
+    blanks : {l w : List ℕ} {r s : Option (List ℕ)} {ds : List Derived} → Line l w r → all blank w ≡ true → Lines r ds s → Lines (Some l) ds s
     -- production and what follows
     production : {l w : List ℕ} {r s : Option (List ℕ)} {es : List WrittenEvent} {cs : List WrittenCall} {ds : List Derived}
         → Line l w r → DerivesProduction w es cs → Lines r ds s
-        → Lines (some l) (record { start = start_in_text l; events = es; calls = cs } ∷ ds) s
+        → Lines (Some l) (record { start = start_in_text l; events = es; calls = cs } ∷ ds) s
 
   -- translationTable = [ directive ] { production }, up to s; the whole text where s is none
   pub data TranslationTable : Model.Directive → List Derived → Option (List ℕ) → Type 0 where
     -- { production }: "none means replace"
-    plain : {s : Option (List ℕ)} {ds : List Derived} → Lines (some text) ds s → TranslationTable Model.Directive.Replace ds s
+    plain : {s : Option (List ℕ)} {ds : List Derived} → Lines (Some text) ds s → TranslationTable Model.Directive.Replace ds s
     -- directive { production }
     directed : {w : List ℕ} {r s : Option (List ℕ)} {d : Model.Directive} {ds : List Derived} → Line text w r → Directive w d → Lines r ds s
         → TranslationTable d ds s

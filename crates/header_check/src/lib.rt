@@ -1,4 +1,4 @@
-// The header of a table, and that the words beyond the numbers that it gives are 0. The unused words of three or four sections
+// The header of a table, and that the words beyond the numbers that it gives are 0. The unused words of a kind's sections
 // are taken in one loop, with no early exit, so that it is compiled to vector instructions that take eight words at a time.
 #![tactic(auto)]
 
@@ -6,12 +6,13 @@ ghost use Rattle.std.specs.Prelude.{◌≡◌, ◌≤◌, length};
 ghost use Rattle.words.specs.Words.{word_at};
 ghost use Rattle.tables.specs.Layout.{table_length};
 ghost use Rattle.header_check.specs.Header.{text_words_ok, count_words_ok, header_ok};
-ghost use Rattle.header_check.specs.Unused.{productions_rest, tests_rest, details_rest, calls_rest, parameters_rest, unused_ok};
+ghost use Rattle.header_check.specs.Unused.{unused_ok};
 
 use tables::places;
 
 // ---- The header
 
+#[tactic(auto, unfolding(crate::specs::Header::text_words_ok))]
 fn texts_ok(directive: u16, merged: u16, first: u16, second: u16) -> bool
     ensures { result ≡ text_words_ok directive merged first second }
 {
@@ -22,12 +23,14 @@ fn texts_ok(directive: u16, merged: u16, first: u16, second: u16) -> bool
         & ((merged == 1) | (second == 0))
 }
 
+#[tactic(auto, unfolding(crate::specs::Header::count_words_ok))]
 fn counts_ok(productions: u16, events: u16, calls: u16, parameters: u16) -> bool
     ensures { result ≡ count_words_ok productions events calls parameters }
 {
     (productions <= 64) & (events <= 256) & (calls <= 128) & (parameters <= 256)
 }
 
+#[tactic(auto, unfolding(crate::specs::Header::header_ok))]
 pub fn header_ok(l: &[u8]) -> bool
     requires { table_length ≤ length l.now }
     ensures { result ≡ header_ok l.now }
@@ -49,82 +52,39 @@ pub fn header_ok(l: &[u8]) -> bool
 
 // ---- Unused words
 
-fn productions_rest(l: &[u8], n: usize) -> bool
-    requires { (table_length ≤ length l.now) × (n ≤ 64) }
-    ensures { result ≡ productions_rest l.now n }
-{
-    words::zero_in_two(
-        l,
-        places::PRODUCTION_EVENTS + n,
-        places::PRODUCTION_CALLS + n,
-        64 - n,
-    )
-}
+const PRODUCTION_SECTIONS: [usize; 2] = [places::PRODUCTION_EVENTS, places::PRODUCTION_CALLS];
 
-fn tests_rest(l: &[u8], n: usize) -> bool
-    requires { (table_length ≤ length l.now) × (n ≤ 256) }
-    ensures { result ≡ tests_rest l.now n }
-{
-    words::zero_in_four(
-        l,
-        places::CODES + n,
-        places::COUNTS + n,
-        places::SETS + n,
-        places::CLEARS + n,
-        256 - n,
-    )
-}
+// But for those of the keysyms, which keysym_check tests.
+const EVENT_SECTIONS: [usize; 7] = [
+    places::CODES,
+    places::COUNTS,
+    places::SETS,
+    places::CLEARS,
+    places::FLAGS,
+    places::LOWS,
+    places::HIGHS,
+];
 
-fn details_rest(l: &[u8], n: usize) -> bool
-    requires { (table_length ≤ length l.now) × (n ≤ 256) }
-    ensures { result ≡ details_rest l.now n }
-{
-    words::zero_in_three(
-        l,
-        places::FLAGS + n,
-        places::LOWS + n,
-        places::HIGHS + n,
-        256 - n,
-    )
-}
+const CALL_SECTIONS: [usize; 4] = [
+    places::MARKS,
+    places::NAME_STARTS,
+    places::NAME_LENGTHS,
+    places::CALL_PARAMETERS,
+];
 
-fn calls_rest(l: &[u8], n: usize) -> bool
-    requires { (table_length ≤ length l.now) × (n ≤ 128) }
-    ensures { result ≡ calls_rest l.now n }
-{
-    words::zero_in_four(
-        l,
-        places::MARKS + n,
-        places::NAME_STARTS + n,
-        places::NAME_LENGTHS + n,
-        places::CALL_PARAMETERS + n,
-        128 - n,
-    )
-}
+const PARAMETER_SECTIONS: [usize; 2] = [places::PARAMETER_STARTS, places::PARAMETER_LENGTHS];
 
-fn parameters_rest(l: &[u8], n: usize) -> bool
-    requires { (table_length ≤ length l.now) × (n ≤ 256) }
-    ensures { result ≡ parameters_rest l.now n }
-{
-    words::zero_in_two(
-        l,
-        places::PARAMETER_STARTS + n,
-        places::PARAMETER_LENGTHS + n,
-        256 - n,
-    )
-}
-
+#[tactic(auto, unfolding(crate::specs::Unused::unused_ok))]
 pub fn unused_ok(l: &[u8]) -> bool
     requires { (table_length ≤ length l.now) × ((word_at l.now 4 ≤ 64) × (word_at l.now 5 ≤ 256) × (word_at l.now 6 ≤ 128) × (word_at l.now 7 ≤ 256)) }
     ensures { result ≡ unused_ok l.now }
 {
-    let productions = words::word_at(l, places::PRODUCTIONS) as usize;
-    let events = words::word_at(l, places::EVENTS) as usize;
-    let calls = words::word_at(l, places::CALLS) as usize;
-    let parameters = words::word_at(l, places::PARAMETERS) as usize;
-    productions_rest(l, productions)
-        & tests_rest(l, events)
-        & details_rest(l, events)
-        & calls_rest(l, calls)
-        & parameters_rest(l, parameters)
+    let productions = usize::from(words::word_at(l, places::PRODUCTIONS));
+    let events = usize::from(words::word_at(l, places::EVENTS));
+    let calls = usize::from(words::word_at(l, places::CALLS));
+    let parameters = usize::from(words::word_at(l, places::PARAMETERS));
+    words::zero_in(l, PRODUCTION_SECTIONS, productions, 64)
+        & words::zero_in(l, EVENT_SECTIONS, events, 256)
+        & words::zero_in(l, CALL_SECTIONS, calls, 128)
+        & words::zero_in(l, PARAMETER_SECTIONS, parameters, 256)
 }

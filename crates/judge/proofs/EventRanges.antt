@@ -4,7 +4,7 @@ use native.Mathlib.Omega.{arith}
 use mathlib.Core.Path.{◌≡◌, refl, ap, subst, ◌∙◌}
 use mathlib.Core.Bool.{Bool, true, false, cond, not, ◌||◌, or-true, true≢false}
 use mathlib.Core.List.{List, []}
-use mathlib.Core.Option.{Option, none, some}
+use Rattle.std.specs.Prelude.{Option, None, Some}
 use lib.Dec.{leb, eqb, lit<, lit≤}
 use lib.ListN.{length}
 use borrow.Author.Tests.{leb-true, eqb-true, ltb-false, not-false}
@@ -75,8 +75,8 @@ either_right true b e = absurd (true≢false e)
 either_right false b e = e
 
 count_in_lem : (code : ℕ) (count : Option Count) → count_bad code count ≡ false → CountIn code (count_value count)
-count_in_lem code none e = record { from = lit≤ tt; to = lit≤ tt; taken = refl }
-count_in_lem code (some c) e =
+count_in_lem code None e = record { from = lit≤ tt; to = lit≤ tt; taken = refl }
+count_in_lem code (Some c) e =
     let t : takes_count code ≡ true =
     not-false (takes_count code) (either_left (not (takes_count code)) (not (is_one_digit c.digits)) e) in
     let o : is_one_digit c.digits ≡ true =

@@ -2,7 +2,7 @@
 use Prim.Native.Nat.{ℕ, zero, suc, ◌+◌, ◌<◌}
 use mathlib.Core.Bool.{Bool, true, false, cond}
 use mathlib.Core.List.{List, [], ◌∷◌, ◌++◌}
-use mathlib.Core.Option.{Option, none, some}
+use Rattle.std.specs.Prelude.{Option, None, Some}
 use lib.Dec.{leb}
 use lib.ListN.{length}
 use Rattle.model.specs.Lists.{any, bytes, part}
@@ -37,8 +37,8 @@ both P true p q = p
 both P false p q = q
 
 abbrev ListIn : Option ModifierList → Type 0
-ListIn none = Unit
-ListIn (some list) = WordsIn (modifiers_of list)
+ListIn None = Unit
+ListIn (Some list) = WordsIn (modifiers_of list)
 
 -- `None` and `Any` have no modifier
 list_of_in : (bang colon : Bool) (ms : List Modifier) → WordsIn ms → ListIn (list_of bang colon ms)
@@ -63,17 +63,17 @@ module _ (l : List ℕ) (h : (k : ℕ) → byte_at l k < 256) where
 
   count_in_lem : (list : ModifierList) (word : List ℕ) (c : CountRead) → WordsIn (modifiers_of list) → ReadIn (with_count l list word c)
   count_in_lem list word CountRead.Broken ws = tt
-  count_in_lem list word (CountRead.Absent next) ws = detail_in list word none (skip l next) ws
+  count_in_lem list word (CountRead.Absent next) ws = detail_in list word None (skip l next) ws
   count_in_lem list word (CountRead.Digits start end plus next) ws =
-      detail_in list word (some (record { digits = part l start end; plus = plus })) (skip l next) ws
+      detail_in list word (Some (record { digits = part l start end; plus = plus })) (skip l next) ws
 
   type_in_lem : (list : ModifierList) (t : TypeRead) → WordsIn (modifiers_of list) → ReadIn (with_type l list t)
   type_in_lem list TypeRead.Broken ws = tt
   type_in_lem list (TypeRead.Type start end next) ws = count_in_lem list (part l start end) (count_at l next) ws
 
   list_in_lem : (o : Option ModifierList) (end : ℕ) → ListIn o → ReadIn (with_list l o end)
-  list_in_lem none end ws = tt
-  list_in_lem (some list) end ws = type_in_lem list (type_at l end) ws
+  list_in_lem None end ws = tt
+  list_in_lem (Some list) end ws = type_in_lem list (type_at l end) ws
 
   list_words : (lead : Lead) (m : Modifiers) → ReadWords m → ReadIn (with_modifiers l lead m)
   list_words lead Modifiers.broken ws = tt

@@ -4,7 +4,7 @@ use native.Mathlib.Omega.{arith}
 use mathlib.Core.Path.{◌≡◌, refl, sym, ap, ◌∙◌}
 use mathlib.Core.Bool.{Bool, true, false, cond, ◌&&◌}
 use mathlib.Core.List.{List, [], ◌∷◌}
-use mathlib.Core.Option.{Option, none, some}
+use Rattle.std.specs.Prelude.{Option, None, Some}
 use lib.Dec.{leb, ltb, eqb}
 use lib.ListN.{length, drop}
 use borrow.Author.Tests.{leb-true, ltb-true, le-leb, ltb-false}
@@ -116,8 +116,8 @@ read_passes DetailRead.TooLarge = true
 read_passes DetailRead.NotBuilt = true
 
 limit_passes : (limit : ℕ) → limit ≤ keysym_limit → (o : Option ℕ) → read_passes (within_limit limit o) ≡ true
-limit_passes limit h none = refl
-limit_passes limit h (some v) = go (ltb limit v) refl
+limit_passes limit h None = refl
+limit_passes limit h (Some v) = go (ltb limit v) refl
   where
     go : (b : Bool) → ltb limit v ≡ b → read_passes (cond b DetailRead.TooLarge (DetailRead.Value v)) ≡ true
     go true e = refl

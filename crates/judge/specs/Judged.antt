@@ -1,6 +1,5 @@
 -- An event judged by the values of its modifier list, count and detail, the same as model's `judged_as` (proofs/Same).
-use Rattle.std.specs.Prelude.{ℕ, Bool, cond, not, ◌&&◌, ◌||◌, List, eqb}
-use Rattle.std.proofs.Math.Option.{Option, none, some}
+use Rattle.std.specs.Prelude.{ℕ, Bool, cond, not, ◌&&◌, ◌||◌, List, eqb, Option, None, Some}
 use Rattle.model.specs.Numbers.{event_order}
 use Rattle.model.specs.Names.{shift_bit, lock_bit}
 use Rattle.model.specs.Codes.{is_key, takes_modifiers}
@@ -20,7 +19,7 @@ use Rattle.list_masks.specs.Summary.{set_of, clear_of, clause_of, forms_of}
 
 -- a count as the scanner hands it over
 unfoldable pub count_of : Bool → Bool → List ℕ → Option Count
-count_of counted plus digits = cond counted (some (record { digits = digits; plus = plus })) none
+count_of counted plus digits = cond counted (Some (record { digits = digits; plus = plus })) None
 
 unfoldable pub count_summary : ℕ → Option Count → CountSummary
 count_summary code count =

@@ -2,11 +2,10 @@
 use Prim.Native.Nat.{ℕ, ◌*◌, ◌≤◌, ◌<◌}
 use native.Mathlib.Omega.{arith}
 use native.Mathlib.Nat.{zero-add}
-use borrow.Author.Tests.{leb-true, le-leb}
-use mathlib.Core.Path.{◌≡◌, refl, ap}
-use mathlib.Core.Bool.{Bool, true, false, cond}
-use mathlib.Core.List.{List, []}
-use lib.Dec.{leb}
+use borrow.Author.Tests.{le-leb}
+use Rattle.std.proofs.lemmas.Bool.Decides.{nat_tests}
+use mathlib.Core.Path.{◌≡◌, ap}
+use mathlib.Core.List.{List}
 use lib.ListN.{length, get_or}
 use Rattle.words.specs.Runs.{run}
 use Rattle.words.proofs.RunLaws.{length_run, get_d_run}
@@ -16,11 +15,7 @@ module _ (l : List ℕ) where
   -- there are numbers only where there are the bytes of a map
   pub map_bytes_lem : length (map_numbers l) ≡ 496 → 1984 ≤ length l
   unfolding map_numbers
-  map_bytes_lem h = go (leb 1984 (length l)) refl h
-    where
-      go : (t : Bool) → leb 1984 (length l) ≡ t → length (cond t (run (λ k. number_from l (4 * k)) 0 496) []) ≡ 496 → 1984 ≤ length l
-      go true q e = leb-true 1984 (length l) q
-      go false q e = absurd (omega arith)
+  map_bytes_lem h = grind (arith, nat_tests)
 
   all_numbers : 1984 ≤ length l → map_numbers l ≡ run (λ k. number_from l (4 * k)) 0 496
   unfolding map_numbers

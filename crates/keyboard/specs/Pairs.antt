@@ -21,8 +21,3 @@ pair_asked set clear colon a b state detail =
 -- some setting of Lock gives the detail under this Shift: the given one where Lock is cared for
 unfoldable pub lock_gives : ℕ → ℕ → Bool → Bool → Bool → ℕ → Bool
 lock_gives a b shift cares lock detail = any (λ l. eqb (keysym_of a b shift l) detail) (settings cares lock)
-
--- some setting of Shift and Lock does
-unfoldable pub pair_gives : ℕ → ℕ → Bool → Bool → Bool → Bool → ℕ → Bool
-pair_gives a b cares_shift shift cares_lock lock detail =
-    any (λ s. lock_gives a b s cares_lock lock detail) (settings cares_shift shift)

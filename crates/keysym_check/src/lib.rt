@@ -3,16 +3,17 @@
 #![tactic(auto)]
 
 ghost use Rattle.std.specs.Prelude.{◌≡◌, ◌&&◌, ◌≤◌, ◌<◌, length};
-ghost use Rattle.words.specs.Runs.{every};
+ghost use Rattle.words.specs.Runs.{every, zero_in};
 ghost use Rattle.tables.specs.Layout.{table_length};
 ghost use Rattle.tables.specs.Fitting.{keysym_in_range, comes_after, keysyms_in_range};
-ghost use Rattle.header_check.specs.Unused.{first_two_rest, last_two_rest};
+ghost use Rattle.header_check.specs.Unused.{keysym_sections};
 ghost use Rattle.keysym_check.specs.Slots.{no_keysym, keysyms_ok, slots_ok};
 
 use model::events::Keysyms;
 use tables::places;
 
-// ---- One event
+// ---- One event. The tests are joined by `&` and `|`: `&&`, `||` and a range's `contains` would be exits, and the loop over events
+// is compiled to vector instructions.
 
 fn keysym_ok(s: u32) -> bool
     ensures { result ≡ keysym_in_range s }
@@ -26,6 +27,7 @@ fn after_ok(s: u32, next: u32) -> bool
     (next == 0) | ((s != 0) & (s % 0x20000000 < next % 0x20000000))
 }
 
+#[tactic(auto, unfolding(tables::specs::Fitting::keysyms_in_range))]
 fn keysyms_ok(k: Keysyms) -> bool
     ensures { result ≡ keysyms_in_range k }
 {
@@ -38,68 +40,49 @@ fn keysyms_ok(k: Keysyms) -> bool
         & after_ok(k.third, k.fourth)
 }
 
+#[tactic(auto, using(words::proofs::RunLaws::every_next), unfolding(words::specs::Runs::every, crate::specs::Slots::keysyms_ok))]
 fn each_ok(l: &[u8], n: usize) -> bool
     requires { (table_length ≤ length l.now) × (n ≤ 256) }
     ensures { result ≡ every (keysyms_ok l.now) 0 n }
 {
     let mut ok = true;
-    let mut i: usize = 0;
-    while i < n {
-        let k = tables::read::keysyms_at(l, i);
-        ok = ok & keysyms_ok(k);
-        i += 1;
+    for i in 0..n {
+        ok &= keysyms_ok(tables::read::keysyms_at(l, i));
     }
     ok
 }
 
-// ---- Unused words
-
-fn first_two_rest(l: &[u8], n: usize) -> bool
-    requires { (table_length ≤ length l.now) × (n ≤ 256) }
-    ensures { result ≡ first_two_rest l.now n }
-{
-    words::zero_in_four(
-        l,
-        places::FIRST_LOWS + n,
-        places::FIRST_HIGHS + n,
-        places::SECOND_LOWS + n,
-        places::SECOND_HIGHS + n,
-        256 - n,
-    )
-}
-
-fn last_two_rest(l: &[u8], n: usize) -> bool
-    requires { (table_length ≤ length l.now) × (n ≤ 256) }
-    ensures { result ≡ last_two_rest l.now n }
-{
-    words::zero_in_four(
-        l,
-        places::THIRD_LOWS + n,
-        places::THIRD_HIGHS + n,
-        places::FOURTH_LOWS + n,
-        places::FOURTH_HIGHS + n,
-        256 - n,
-    )
-}
-
 // ---- All of them
 
-// The lower and the upper words of each of the four stand one after the other.
+const KEYSYM_SECTIONS: [usize; 8] = [
+    places::FIRST_LOWS,
+    places::FIRST_HIGHS,
+    places::SECOND_LOWS,
+    places::SECOND_HIGHS,
+    places::THIRD_LOWS,
+    places::THIRD_HIGHS,
+    places::FOURTH_LOWS,
+    places::FOURTH_HIGHS,
+];
+
+// The lower and the upper words of each of the four, which stand one after the other.
+const PAIRS_OF_SECTIONS: [usize; 4] = [
+    places::FIRST_LOWS,
+    places::SECOND_LOWS,
+    places::THIRD_LOWS,
+    places::FOURTH_LOWS,
+];
+
+#[tactic(auto, unfolding(crate::specs::Slots::no_keysym))]
 fn no_keysym(l: &[u8]) -> bool
     requires { table_length ≤ length l.now }
     ensures { result ≡ no_keysym l.now }
 {
-    words::zero_in_four(
-        l,
-        places::FIRST_LOWS,
-        places::SECOND_LOWS,
-        places::THIRD_LOWS,
-        places::FOURTH_LOWS,
-        512,
-    )
+    words::zero_in(l, PAIRS_OF_SECTIONS, 0, 512)
 }
 
 // Whether those of n events are in range, and all beyond them 0.
+#[tactic(auto, using(crate::proofs::NoKeysym::none_slots), unfolding(crate::specs::Slots::slots_ok))]
 pub fn slots_ok(l: &[u8], n: usize) -> bool
     requires { (table_length ≤ length l.now) × (n ≤ 256) }
     ensures { result ≡ slots_ok l.now n }
@@ -107,5 +90,5 @@ pub fn slots_ok(l: &[u8], n: usize) -> bool
     if no_keysym(l) {
         return true;
     }
-    each_ok(l, n) & first_two_rest(l, n) & last_two_rest(l, n)
+    each_ok(l, n) & words::zero_in(l, KEYSYM_SECTIONS, n, 256)
 }

@@ -4,7 +4,7 @@ use native.Mathlib.Omega.{arith}
 use mathlib.Core.Path.{◌≡◌, refl}
 use mathlib.Core.Bool.{Bool, true, false}
 use mathlib.Core.List.{List, [], ◌∷◌}
-use mathlib.Core.Option.{none}
+use Rattle.std.specs.Prelude.{None}
 use lib.Dec.{ltb}
 use lib.ListN.{get_or}
 use borrow.Author.Tests.{ltb-true, ne_eqb}
@@ -80,7 +80,7 @@ large_other v h DetailRead.Unknown e = refl
 large_other v h DetailRead.TooLarge e = refl
 large_other v h DetailRead.NotBuilt e = refl
 
-none_earliest : (v i : ℕ) → 0x100 ≤ v → (rs : List DetailRead) → all is_byte_value rs ≡ true → earliest (is_value v) i rs ≡ none
+none_earliest : (v i : ℕ) → 0x100 ≤ v → (rs : List DetailRead) → all is_byte_value rs ≡ true → earliest (is_value v) i rs ≡ None
 none_earliest v i h [] e = refl
 none_earliest v i h (r ∷ rs) e =
     rw (large_other v h r (and_left (is_byte_value r) (all is_byte_value rs) e))

@@ -1,7 +1,6 @@
 -- The table of the Latin-1 names, R-4: "in a sorted constant table of name bytes with starts and values". Of the three names `AE`,
 -- `a` and `ae` it would hold the bytes `AEaae`, the starts 0, 2, 3 and 5, and the values 0xc6, 0x61 and 0xe6.
-use Rattle.std.specs.Prelude.{ℕ, ◌+◌, List, [], ◌∷◌, ◌++◌, map, length, get_or}
-use Rattle.std.proofs.Math.Option.{Option, none, some}
+use Rattle.std.specs.Prelude.{ℕ, ◌+◌, List, [], ◌∷◌, ◌++◌, map, length, get_or, Option, None, Some}
 use Rattle.words.specs.Runs.{run}
 use Rattle.model.specs.Lists.{earliest}
 use Rattle.model.specs.Latin1.{latin1_entries}
@@ -44,8 +43,8 @@ keysym_values = map value_number (meanings_in latin1_entries)
 -- ---- The first name of a keysym
 
 abbrev pub place_given : Option ℕ → NamePlace
-place_given none = NamePlace.Nowhere
-place_given (some i) = NamePlace.At i
+place_given None = NamePlace.Nowhere
+place_given (Some i) = NamePlace.At i
 
 -- the place of the first name that stands for a value
 unfoldable pub first_place : ℕ → NamePlace

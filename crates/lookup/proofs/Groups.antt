@@ -4,7 +4,7 @@ use native.Mathlib.Omega.{arith}
 use mathlib.Core.Path.{◌≡◌, refl, sym, ◌∙◌}
 use mathlib.Core.Bool.{Bool, true, false, false≢true}
 use mathlib.Core.List.{List, [], ◌∷◌}
-use mathlib.Core.Option.{none}
+use Rattle.std.specs.Prelude.{None}
 use lib.ListN.{length}
 use borrow.Author.Tests.{eq-eqb}
 use Rattle.words.specs.Runs.{run}
@@ -134,6 +134,6 @@ module _ (w : List ℕ) where
   unfolding found_or_number detail_found name_or_number
   request_found = rw (found_named detail_meaning DetailRead.Unknown w _ _ request_entries table_holds.requests)
 
-  pub directive_found : meaning_of directive_meaning none (find_from (none_at - directives_at) directives_at w) ≡ directive_of w
+  pub directive_found : meaning_of directive_meaning None (find_from (none_at - directives_at) directives_at w) ≡ directive_of w
   unfolding directive_of directive_entries
-  directive_found = found_named directive_meaning none w _ _ directive_entries table_holds.directives
+  directive_found = found_named directive_meaning None w _ _ directive_entries table_holds.directives

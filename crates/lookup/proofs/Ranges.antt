@@ -4,7 +4,7 @@ use native.Mathlib.Omega.{arith}
 use mathlib.Core.Path.{◌≡◌, refl, ◌∙◌}
 use mathlib.Core.Bool.{Bool, true, false, cond, ◌&&◌}
 use mathlib.Core.List.{List, [], ◌∷◌}
-use mathlib.Core.Option.{Option, none, some}
+use Rattle.std.specs.Prelude.{Option, None, Some}
 use lib.Dec.{eqb, leb, ltb}
 use lib.ListN.{length, drop, get_or}
 use borrow.Author.Tests.{le-leb, ltb-false}
@@ -99,8 +99,8 @@ abbrev at_most : ℕ → ℕ → Bool
 at_most limit v = leb v limit
 
 within_most : (limit : ℕ) (o : Option ℕ) → passes (at_most limit) (within_limit limit o) ≡ true
-within_most limit none = refl
-within_most limit (some v) = go (ltb limit v) refl
+within_most limit None = refl
+within_most limit (Some v) = go (ltb limit v) refl
   where
     go : (b : Bool) → ltb limit v ≡ b
         → passes (at_most limit) (cond (ltb limit v) DetailRead.TooLarge (DetailRead.Value v)) ≡ true

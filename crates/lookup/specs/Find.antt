@@ -1,6 +1,5 @@
 -- Looking a word up in a range of the table of names.
-use Rattle.std.specs.Prelude.{ℕ, zero, suc, ◌-◌, cond, List, get_or}
-use Rattle.std.proofs.Math.Option.{Option, none, some}
+use Rattle.std.specs.Prelude.{ℕ, zero, suc, ◌-◌, cond, List, get_or, Option, None, Some}
 use Rattle.model.specs.Lists.{same}
 use Rattle.model.specs.Bytes.{byte_at, is_digit}
 use Rattle.model.specs.Details.{small_number}
@@ -35,7 +34,7 @@ abbrev pub detail_meaning : ℕ → DetailRead
 detail_meaning i = DetailRead.Value (get_or detail_values i 0)
 
 abbrev pub directive_meaning : ℕ → Option Directive
-directive_meaning i = some (directive_row (i - directives_at))
+directive_meaning i = Some (directive_row (i - directives_at))
 
 -- a detail's name in a range
 unfoldable pub detail_found : ℕ → ℕ → List ℕ → DetailRead
@@ -47,5 +46,5 @@ found_or_number from to w = cond (is_digit (byte_at w 0)) (small_number w) (deta
 
 -- the directive that a first line gives
 abbrev pub directive_given : FirstLine → Option Directive
-directive_given (FirstLine.Found d) = some d
-directive_given FirstLine.Absent = none
+directive_given (FirstLine.Found d) = Some d
+directive_given FirstLine.Absent = None

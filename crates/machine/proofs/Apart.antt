@@ -5,7 +5,7 @@ use native.Mathlib.Nat.{eq-or-lt_of_le}
 use mathlib.Core.Path.{◌≡◌, refl, sym, ap, ◌∙◌}
 use mathlib.Core.Logic.{◌⊎◌, inl, inr, ⊎_elim}
 use mathlib.Core.Bool.{Bool, true, false, cond}
-use mathlib.Core.Option.{Option, none, some}
+use Rattle.std.specs.Prelude.{Option, None, Some}
 use mathlib.Core.List.Memᴰ
 use mathlib.Core.List.{List, [], ◌∷◌, ◌++◌}
 use lib.ListN.{length, take, drop, take-append-drop, length-drop}
@@ -31,28 +31,28 @@ module _ {A : Type 0} where
 
 -- ---- What always holds
 
-smallest_from : (f : ℕ → Bool) (n k s : ℕ) → smallest f n k ≡ some s → (n ≤ s) × (s < n + k)
+smallest_from : (f : ℕ → Bool) (n k s : ℕ) → smallest f n k ≡ Some s → (n ≤ s) × (s < n + k)
 unfolding smallest
 smallest_from f n zero s e = let z : ◌≡◌ {A = ℕ} 0 1 = cc in absurd (omega arith)
 smallest_from f n (suc k) s e = go (f n) refl (smallest_from f (suc n) k s)
   where
-    go : (b : Bool) → f n ≡ b → (smallest f (suc n) k ≡ some s → (suc n ≤ s) × (s < suc n + k)) → (n ≤ s) × (s < n + suc k)
+    go : (b : Bool) → f n ≡ b → (smallest f (suc n) k ≡ Some s → (suc n ≤ s) × (s < suc n + k)) → (n ≤ s) × (s < n + suc k)
     go true q later = let z : n ≡ s = cc in (omega arith, omega arith)
     go false q later =
-        let z : smallest f (suc n) k ≡ some s = cc in let l = later z in (omega (arith, l.0), omega (arith, l.1))
+        let z : smallest f (suc n) k ≡ Some s = cc in let l = later z in (omega (arith, l.0), omega (arith, l.1))
 
 module _ {E : Type 0} (R : Reading E) where
   -- every place has a number, up to that of the latest heard event, and marks lie within the history
   pub record Sound (a : Standing E) : Type 0 where
     pub paired : length a.numbers ≡ length a.history
     pub last≤ : a.last ≤ length a.history
-    pub within : (s : ℕ) → a.context ≡ some s → (0 < s) × (s ≤ length a.history)
+    pub within : (s : ℕ) → a.context ≡ Some s → (0 < s) × (s ≤ length a.history)
     pub most : Every (λ n. n ≤ a.number) a.numbers
 
   pub sound_first : Sound at_first
   sound_first = record { paired = refl; last≤ = omega arith; within = λ s e. absurd (no s e); most = Every.empty }
     where
-      no : (s : ℕ) → ◌≡◌ {A = Option ℕ} none (some s) → ⊥
+      no : (s : ℕ) → ◌≡◌ {A = Option ℕ} None (Some s) → ⊥
       no s e = let z : ◌≡◌ {A = ℕ} 0 1 = cc in omega arith
 
   module _ (a : Standing E) (s : Sound a) (p : 0 < length a.history) where
@@ -76,19 +76,19 @@ module _ {E : Type 0} (R : Reading E) where
     h = a.history ++ (x ∷ [])
 
     -- a context that is open goes on from where it began, or begins after both marks
-    context_from : (s : ℕ) → context_at R h a ≡ some s → (a.context ≡ some s) ⊎ ((after R a < s) × (s ≤ length h))
+    context_from : (s : ℕ) → context_at R h a ≡ Some s → (a.context ≡ Some s) ⊎ ((after R a < s) × (s ≤ length h))
     context_from s e = go (goes_on R h a.context) refl
       where
-        go : (b : Bool) → goes_on R h a.context ≡ b → (a.context ≡ some s) ⊎ ((after R a < s) × (s ≤ length h))
+        go : (b : Bool) → goes_on R h a.context ≡ b → (a.context ≡ Some s) ⊎ ((after R a < s) × (s ≤ length h))
         go true q = inl (ap (λ b. cond b a.context (new_start R h a)) (sym q) ∙ e)
         go false q =
-            let n : new_start R h a ≡ some s = ap (λ b. cond b a.context (new_start R h a)) (sym q) ∙ e in
+            let n : new_start R h a ≡ Some s = ap (λ b. cond b a.context (new_start R h a)) (sym q) ∙ e in
             let l = smallest_from (λ v. R.prefix (drop (pred v) h)) (suc (after R a)) (length h - after R a) s n in
             inr (l.0, omega (arith, l.0, l.1))
 
     last_within : (o : Option ℕ) (n : ℕ) → n ≤ length h → last_of (length h) o n ≤ length h
-    last_within none n l = l
-    last_within (some p) n l = omega arith
+    last_within None n l = l
+    last_within (Some p) n l = omega arith
 
     sound_takes : Sound a → Sound (takes_place R a x)
     sound_takes s =
@@ -98,7 +98,7 @@ module _ {E : Type 0} (R : Reading E) where
           last≤ = last_within (selected_at R h (context_at R h a)) a.last (omega (arith, s.last≤));
           within = λ v e.
               ⊎_elim
-              (λ (q : a.context ≡ some v). let w = s.within v q in (w.0, omega (arith, w.1)))
+              (λ (q : a.context ≡ Some v). let w = s.within v q in (w.0, omega (arith, w.1)))
               (λ q. (omega (arith, q.0), q.1))
               (context_from v e);
           most =
@@ -131,8 +131,8 @@ module _ {E : Type 0} (R : Reading E) where
   marked_hears a x = go (left_for R a x) (selected_at R (h (left_for R a x) x) (context_at R (h (left_for R a x) x) (left_for R a x)))
     where
       go : (b : Standing E) (o : Option ℕ) → given o ≡ true → last_of (length (h b x)) o b.last ≡ length (h b x)
-      go b none e = let z : ◌≡◌ {A = ℕ} 0 1 = cc in absurd (omega arith)
-      go b (some p) e = refl
+      go b None e = let z : ◌≡◌ {A = ℕ} 0 1 = cc in absurd (omega arith)
+      go b (Some p) e = refl
 
   marked_all : (a : Standing E) (xs : List E) → Marked a → Marked (hears_all R a xs)
   unfolding hears_all
@@ -149,7 +149,7 @@ module _ {E : Type 0} (R : Reading E) where
     later : Every (λ n. m < n) (drop a.last a.numbers)
     -- and so was all of an open context that does not begin as they do
     begins :
-        (s : ℕ) → a.context ≡ some s
+        (s : ℕ) → a.context ≡ Some s
         → (beginning these ≡ beginning (drop (pred s) a.numbers)) ⊎ Every (λ n. m < n) (drop (pred s) a.numbers)
 
   module _ (these : List ℕ) (m : ℕ) where
@@ -170,7 +170,7 @@ module _ {E : Type 0} (R : Reading E) where
           (eq-or-lt_of_le r.sound.last≤)
 
       begins_fallen :
-          (s : ℕ) → closed_at (length a.history) a.context ≡ some s
+          (s : ℕ) → closed_at (length a.history) a.context ≡ Some s
           → (beginning these ≡ beginning (drop (pred s) (without_last a.numbers)))
           ⊎ Every (λ n. m < n) (drop (pred s) (without_last a.numbers))
       begins_fallen s e =
@@ -200,26 +200,26 @@ module _ {E : Type 0} (R : Reading E) where
           (every_snoc (λ n. m < n) r.later (omega (arith, r.bound)))
 
       later_takes : (o : Option ℕ) → Every (λ n. m < n) (drop (last_of (length (h a x)) o a.last) numbered)
-      later_takes none = later_now
-      later_takes (some p) =
+      later_takes None = later_now
+      later_takes (Some p) =
           let e : length (h a x) ≡ length numbered
           = omega (arith, r.sound.paired, length_snoc a.history x, length_snoc a.numbers (suc a.number)) in
           rw (e, drop-length numbered) Every.empty
 
       begins_takes :
-          (s : ℕ) → context_at R (h a x) a ≡ some s
+          (s : ℕ) → context_at R (h a x) a ≡ Some s
           → (beginning these ≡ beginning (drop (pred s) numbered)) ⊎ Every (λ n. m < n) (drop (pred s) numbered)
       begins_takes s e = ⊎_elim goes starts (context_from a x s e)
         where
-          goes : a.context ≡ some s
+          goes : a.context ≡ Some s
               → (beginning these ≡ beginning (drop (pred s) numbered)) ⊎ Every (λ n. m < n) (drop (pred s) numbered)
           goes q =
               let w = r.sound.within s q in
               let g : pred s < length a.numbers = omega (arith, w.0, w.1, r.sound.paired) in
-              let some : 0 < length (drop (pred s) a.numbers) = omega (arith, length-drop (pred s) a.numbers) in
+              let Some : 0 < length (drop (pred s) a.numbers) = omega (arith, length-drop (pred s) a.numbers) in
               rw (drop-append-le (pred s) a.numbers (suc a.number ∷ []) (omega arith))
               (⊎_elim
-              (λ i. inl (i ∙ sym (begins_snoc (drop (pred s) a.numbers) (suc a.number) some)))
+              (λ i. inl (i ∙ sym (begins_snoc (drop (pred s) a.numbers) (suc a.number) Some)))
               (λ i. inr (every_snoc (λ n. m < n) i (omega (arith, r.bound))))
               (r.begins s q))
 
@@ -256,16 +256,16 @@ module _ {E : Type 0} (R : Reading E) where
       }
 
   most_context : (a : Standing E) → Sound a → (c : Option ℕ) → Every (λ n. n ≤ a.number) (heard_from a.numbers c)
-  most_context a s none = Every.empty
-  most_context a s (some v) = every_drop (λ n. n ≤ a.number) (pred v) s.most
+  most_context a s None = Every.empty
+  most_context a s (Some v) = every_drop (λ n. n ≤ a.number) (pred v) s.most
 
   past_apart :
       (these : List ℕ) (m : ℕ) (b : Standing E) → Every (λ n. n ≤ m) these → Past these m b → Apart these (context_events b)
   past_apart these m b few r = go b.context refl
     where
       go : (c : Option ℕ) → b.context ≡ c → Apart these (heard_from b.numbers c)
-      go none e = inr (λ n i j. absurd (Memᴰ.not-nil j))
-      go (some s) e =
+      go None e = inr (λ n i j. absurd (Memᴰ.not-nil j))
+      go (Some s) e =
           ⊎_elim
           (λ q. inl q)
           (λ q. inr (λ n i j. let u = every_in (λ k. k ≤ m) few i in let v = every_in (λ k. m < k) q j in omega arith))

@@ -2,7 +2,7 @@
 use Prim.Native.Nat.{ℕ, zero, suc, pred, max}
 use mathlib.Core.Path.{◌≡◌, refl, ap, ap₂, subst}
 use mathlib.Core.Bool.{Bool, true, false, cond, not, ◌&&◌}
-use mathlib.Core.Option.{Option, none, some}
+use Rattle.std.specs.Prelude.{Option, None, Some}
 use mathlib.Core.List.{List, [], ◌∷◌, ◌++◌}
 use lib.Dec.{eqb, ltb}
 use lib.ListN.{length, take, drop}
@@ -136,7 +136,7 @@ module _ (t : Table) (setting : Setting) where
       moved_same (left (reading_of t setting) k x) (left (reading_of t setting) j y) x y (left_same k j x y s l) l
 
   chosen_in_same : (k j : Kept Event) → Same k j → chosen_in (reading_of t setting) k ≡ chosen_in (reading_of t setting) j
-  chosen_in_same k j s = ap₂ (λ o p. cond o p none) s.is_open (chosen_same t setting s.events)
+  chosen_in_same k j s = ap₂ (λ o p. cond o p None) s.is_open (chosen_same t setting s.events)
 
   choice_same :
       (k j : Kept Event) (x y : Event) → Same k j → Like (tests setting t) x y
@@ -149,8 +149,8 @@ module _ (t : Table) (setting : Setting) where
   marked_same :
       (k j : Kept Event) → Same k j → (o : Option ℕ)
       → Same (marked (reading_of t setting) k o) (marked (reading_of t setting) j o)
-  marked_same k j s none = s
-  marked_same k j s (some p) = record { events = s.events; selected = each_length s.events; is_open = s.is_open }
+  marked_same k j s None = s
+  marked_same k j s (Some p) = record { events = s.events; selected = each_length s.events; is_open = s.is_open }
 
   kept_same :
       (k j : Kept Event) (x y : Event) → Same k j → Like (tests setting t) x y

@@ -5,7 +5,7 @@ use native.Mathlib.Omega.{arith}
 use borrow.Author.Tests.{ltb-false, eqb-true, eqb-false, not-true, not-false}
 use mathlib.Core.Path.{◌≡◌, refl, sym, ap, ◌∙◌}
 use mathlib.Core.Bool.{Bool, true, false, cond, not, ◌&&◌, false≢true}
-use mathlib.Core.Option.{Option, none, some}
+use Rattle.std.specs.Prelude.{Option, None, Some}
 use mathlib.Core.List.{List, [], ◌∷◌}
 use lib.Dec.{eqb, ltb}
 use lib.ListN.{length, length-drop}
@@ -160,8 +160,8 @@ module _ {E : Type 0} (R : Reading E) where
   -- ---- The state after an event
 
   marked_open : (k : Kept E) → Bounded R.motion k → k.is_open ≡ true → (o : Option ℕ) → Bounded R.motion (marked R k o)
-  marked_open k b q none = b
-  marked_open k b q (some p) =
+  marked_open k b q None = b
+  marked_open k b q (Some p) =
       record {
         few = b.few;
         within = omega arith;
@@ -173,7 +173,7 @@ module _ {E : Type 0} (R : Reading E) where
   marked_bounded : (k : Kept E) → Bounded R.motion k → Bounded R.motion (marked R k (chosen_in R k))
   marked_bounded k b = go k.is_open refl
     where
-      go : (a : Bool) → k.is_open ≡ a → Bounded R.motion (marked R k (cond a (R.chosen k.events) none))
+      go : (a : Bool) → k.is_open ≡ a → Bounded R.motion (marked R k (cond a (R.chosen k.events) None))
       go true q = marked_open k b q (R.chosen k.events)
       go false q = b
 

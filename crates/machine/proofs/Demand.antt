@@ -2,7 +2,7 @@
 use Prim.Native.Nat.{ℕ}
 use mathlib.Core.Path.{◌≡◌, refl}
 use mathlib.Core.Bool.{Bool, true, false}
-use mathlib.Core.Option.{Option, none, some}
+use Rattle.std.specs.Prelude.{Option, None, Some}
 use lib.Dec.{eqb}
 use Rattle.model.specs.Numbers.{matched_number, matched_selection}
 use Rattle.model.specs.Tables.{Table}
@@ -21,11 +21,11 @@ use Rattle.machine.proofs.Blind.{blind}
 
 module _ (t : Table) (setting : Setting) (k : Kept Event) where
   abbrev Refuses : Step → Type 0
-  Refuses s = (matched_number s.answer ≡ 0 → ⊥) → (matched_selection s.answer ≡ none) × (s.next ≡ k)
+  Refuses s = (matched_number s.answer ≡ 0 → ⊥) → (matched_selection s.answer ≡ None) × (s.next ≡ k)
 
   selection_number : (o : Option ℕ) → matched_number (selection t setting o) ≡ 0
-  selection_number none = refl
-  selection_number (some p) = refl
+  selection_number None = refl
+  selection_number (Some p) = refl
 
   act_refuses : (r : RecordRead) → Refuses (act t setting k r)
   act_refuses (RecordRead.Refused n) = λ f. (refl, refl)

@@ -6,7 +6,7 @@ use borrow.Author.Tests.{eqb-false, eq-eqb, ne_eqb}
 use mathlib.Core.Logic.{⊎_elim}
 use mathlib.Core.Path.{◌≡◌, refl, ap, ◌∙◌}
 use mathlib.Core.Bool.{Bool, true, false, cond}
-use mathlib.Core.Option.{Option, none, some}
+use Rattle.std.specs.Prelude.{Option, None, Some}
 use lib.Dec.{eqb}
 use Rattle.model.specs.Selection.{falls_back, closed_at}
 
@@ -48,10 +48,10 @@ falls_alike place count start last l p s c =
     (eq-or-lt_of_le l)
 
 -- a context that stays open was opened before the place
-pub closed_below : (place : ℕ) (c : Option ℕ) (s : ℕ) → closed_at place c ≡ some s → (c ≡ some s) × (s ≡ place → ⊥)
-closed_below place none s e = let z : ◌≡◌ {A = ℕ} 0 1 = cc in absurd (omega arith)
-closed_below place (some v) s e = go (eqb v place) refl
+pub closed_below : (place : ℕ) (c : Option ℕ) (s : ℕ) → closed_at place c ≡ Some s → (c ≡ Some s) × (s ≡ place → ⊥)
+closed_below place None s e = let z : ◌≡◌ {A = ℕ} 0 1 = cc in absurd (omega arith)
+closed_below place (Some v) s e = go (eqb v place) refl
   where
-    go : (b : Bool) → eqb v place ≡ b → (some v ≡ some s) × (s ≡ place → ⊥)
+    go : (b : Bool) → eqb v place ≡ b → (Some v ≡ Some s) × (s ≡ place → ⊥)
     go true q = let z : ◌≡◌ {A = ℕ} 0 1 = cc in absurd (omega arith)
-    go false q = let z : v ≡ s = cc in (ap some z, λ i. eqb-false v place q (z ∙ i))
+    go false q = let z : v ≡ s = cc in (ap Some z, λ i. eqb-false v place q (z ∙ i))

@@ -5,7 +5,7 @@ use borrow.Author.Tests.{ltb-false, le-ltb}
 use mathlib.Core.Path.{◌≡◌, refl, ap, ◌∙◌}
 use mathlib.Core.Logic.{⊎_elim}
 use mathlib.Core.Bool.{Bool, true, false, ◌&&◌, false≢true}
-use mathlib.Core.Option.{Option, none, some}
+use Rattle.std.specs.Prelude.{Option, None, Some}
 use mathlib.Core.List.{List, [], ◌∷◌, Memᴰ}
 use lib.Dec.{ltb}
 use lib.ListN.{length}
@@ -53,14 +53,14 @@ module _ (setting : Setting) where
   follows_length two one els [] h = omega arith
   follows_length two one [] (y ∷ ys) h = let z : ◌≡◌ {A = ℕ} 0 1 = cc in omega arith
   follows_length two one (el ∷ els) (y ∷ ys) h =
-      let l = follows_length one (some y) els ys (and_right (fits setting two el y) _ h) in omega arith
+      let l = follows_length one (Some y) els ys (and_right (fits setting two el y) _ h) in omega arith
 
   production_short :
       (xs : List Event) (p : Production) → production_passes p ≡ false → reads_as_prefix setting xs p ≡ true → length xs ≤ sequence_limit
   unfolding production_passes reads_as_prefix
   production_short xs p w h =
       let l : length (sequence p) ≤ sequence_limit = ltb-false sequence_limit (length (sequence p)) (or_no_left _ _ (or_no_left _ _ w)) in
-      let m = follows_length none none (sequence p) xs h in
+      let m = follows_length None None (sequence p) xs h in
       omega arith
 
   productions_short :

@@ -5,7 +5,7 @@ use borrow.Author.Tests.{eq-eqb}
 use mathlib.Core.Path.{◌≡◌, refl, sym, ap, ◌∙◌, subst}
 use mathlib.Core.Logic.{◌⊎◌, inl, inr, ⊎_elim}
 use mathlib.Core.Bool.{true, false≢true}
-use mathlib.Core.Option.{Option, none, some}
+use Rattle.std.specs.Prelude.{Option, None, Some}
 use mathlib.Core.List.{List, [], ◌∷◌, ◌++◌, Memᴰ}
 use lib.Dec.{eqb}
 use lib.ListN.{length, take, drop}
@@ -61,8 +61,8 @@ module _ {E : Type 0} (R : Reading E) where
   held_hears a x = go ((left_for R a x).history ++ (x ∷ [])) (context_at R ((left_for R a x).history ++ (x ∷ [])) (left_for R a x))
     where
       go : (h : List E) (c : Option ℕ) → given (selected_at R h c) ≡ true → given c ≡ true
-      go h none e = e
-      go h (some s) e = refl
+      go h None e = e
+      go h (Some s) e = refl
 
   held_all : (a : Standing E) (xs : List E) → Held a → Held (hears_all R a xs)
   unfolding hears_all
@@ -78,8 +78,8 @@ module _ {E : Type 0} (R : Reading E) where
   context_ends a n s e g = go a.context refl g
     where
       go : (c : Option ℕ) → a.context ≡ c → given c ≡ true → ends_in (eqb n) (heard_from a.numbers c) ≡ true
-      go none q z = absurd (false≢true z)
-      go (some v) q z =
+      go None q z = absurd (false≢true z)
+      go (Some v) q z =
           let w = s.within v q in
           ends_drop (eqb n) a.numbers (pred v) (omega (arith, w.0, w.1, s.paired)) ∙ e
 
@@ -119,8 +119,8 @@ module _ {E : Type 0} (R : Reading E) where
   since_context : (old : List ℕ) (m : ℕ) (a : Standing E) → Since old m a → (c : Option ℕ)
       → Every (λ n. Memᴰ n old ⊎ (m < n)) (heard_from a.numbers c)
   unfolding Since
-  since_context old m a s none = Every.empty
-  since_context old m a s (some v) = every_drop (λ n. Memᴰ n old ⊎ (m < n)) (pred v) s.1
+  since_context old m a s None = Every.empty
+  since_context old m a s (Some v) = every_drop (λ n. Memᴰ n old ⊎ (m < n)) (pred v) s.1
 
   gone : (xs : List E) (i j n : ℕ) → i ≤ j → j ≤ length xs → n ≤ i → (Memᴰ n (standing R (take i xs)).numbers → ⊥)
       → Memᴰ n (context_events (standing R (take j xs))) → ⊥

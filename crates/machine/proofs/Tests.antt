@@ -3,7 +3,7 @@ use Prim.Native.Nat.{ℕ, suc}
 use mathlib.Core.Path.{◌≡◌, refl, ap₂}
 use mathlib.Core.Logic.{◌⊎◌, inl, inr}
 use mathlib.Core.Bool.{Bool, true, false, cond, ◌&&◌, ◌||◌}
-use mathlib.Core.Option.{some}
+use Rattle.std.specs.Prelude.{Some}
 use mathlib.Core.List.{List, [], ◌∷◌, Memᴰ}
 use Rattle.model.specs.Lists.{any, all, earliest}
 
@@ -60,4 +60,4 @@ module _ {A : Type 0} where
       (f g : A → Bool) (i : ℕ) (xs : List A) → ((x : A) → Memᴰ x xs → f x ≡ g x) → earliest f i xs ≡ earliest g i xs
   earliest_same f g i [] s = refl
   earliest_same f g i (x ∷ xs) s =
-      ap₂ (λ b o. cond b (some i) o) (s x (Memᴰ.head refl)) (earliest_same f g (suc i) xs (λ y m. s y (Memᴰ.tail m)))
+      ap₂ (λ b o. cond b (Some i) o) (s x (Memᴰ.head refl)) (earliest_same f g (suc i) xs (λ y m. s y (Memᴰ.tail m)))

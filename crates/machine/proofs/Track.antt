@@ -7,7 +7,7 @@ use borrow.Author.Tests.{eq-eqb, ne_eqb}
 use mathlib.Core.Logic.{◌⊎◌, inl, inr, ⊎_elim}
 use mathlib.Core.Path.{◌≡◌, refl, sym, ap, ap₂, ◌∙◌}
 use mathlib.Core.Bool.{Bool, true, false, cond, ◌&&◌, false≢true}
-use mathlib.Core.Option.{Option, none, some}
+use Rattle.std.specs.Prelude.{Option, None, Some}
 use mathlib.Core.List.{List, [], ◌∷◌, ◌++◌}
 use lib.ListN.{length, drop, length-drop}
 use lib.Seq.{drop-length, drop-append-le, drop-drop}
@@ -48,8 +48,8 @@ module _ {E : Type 0} (R : Reading E) where
 
   -- the smallest start after `low`, and the longest end of what lies after it
   data Opens (xs : List E) (low : ℕ) (o : Option ℕ) (ys : List E) : Type 0 where
-    at : (v : ℕ) → low < v → v ≤ length xs → o ≡ some v → ys ≡ drop (pred v) xs → Opens xs low o ys
-    nowhere : o ≡ none → ys ≡ [] → Dead xs low (suc (length xs)) → Opens xs low o ys
+    at : (v : ℕ) → low < v → v ≤ length xs → o ≡ Some v → ys ≡ drop (pred v) xs → Opens xs low o ys
+    nowhere : o ≡ None → ys ≡ [] → Dead xs low (suc (length xs)) → Opens xs low o ys
 
   opens_later :
       (xs : List E) (low : ℕ) (o : Option ℕ) (ys : List E) → R.prefix (drop low xs) ≡ false → Opens xs (suc low) o ys
@@ -78,7 +78,7 @@ module _ {E : Type 0} (R : Reading E) where
   -- the context that is open begins where the kept events do
   record Opened (a : Standing E) (k : Kept E) (start : ℕ) : Type 0 where
     is_open : k.is_open ≡ true
-    context : a.context ≡ some start
+    context : a.context ≡ Some start
     latest : a.latest ≡ start
     within : start ≤ length a.history
 
@@ -86,7 +86,7 @@ module _ {E : Type 0} (R : Reading E) where
   -- replaced, those before the kept events failed without it already.
   record Shut (a : Standing E) (k : Kept E) (start : ℕ) : Type 0 where
     is_open : k.is_open ≡ false
-    context : a.context ≡ none
+    context : a.context ≡ None
     above : after R a < start
     within : start ≤ suc (length a.history)
     dead : Dead a.history (after R a) (suc (length a.history))
@@ -97,7 +97,7 @@ module _ {E : Type 0} (R : Reading E) where
   -- the same before an event takes its place: what is kept may read as a prefix with it, what lies before may not
   record Waiting (a : Standing E) (k : Kept E) (start : ℕ) : Type 0 where
     is_open : k.is_open ≡ false
-    context : a.context ≡ none
+    context : a.context ≡ None
     above : after R a < start
     within : start ≤ suc (length a.history)
     dead : Dead a.history (after R a) start
@@ -299,10 +299,10 @@ module _ {E : Type 0} (R : Reading E) where
   -- where the context stands after it: over the history h, and where `a` stood before
   data Placed (h : List E) (a : Standing E) (o : Option ℕ) (m : Kept E) : Type 0 where
     opened :
-        (v : ℕ) → 0 < v → v ≤ length h → o ≡ some v → m.is_open ≡ true → m.events ≡ drop (pred v) h
+        (v : ℕ) → 0 < v → v ≤ length h → o ≡ Some v → m.is_open ≡ true → m.events ≡ drop (pred v) h
         → m.selected ≡ suc a.last - v → Placed h a o m
     shut :
-        (start : ℕ) → o ≡ none → m.is_open ≡ false → m.selected ≡ 0 → m.events ≡ drop (pred start) h
+        (start : ℕ) → o ≡ None → m.is_open ≡ false → m.selected ≡ 0 → m.events ≡ drop (pred start) h
         → after R a < start → start ≤ suc (length h) → Dead h (after R a) (suc (length h))
         → (ends_in R.motion h ≡ true → (start ≤ length h) × Dead (without_last h) (after R a) start) → Placed h a o m
 
@@ -348,7 +348,7 @@ module _ {E : Type 0} (R : Reading E) where
           (rest : unused R k x ≡ drop low h)
           (m : moved R k x ≡ reopened R (R.motion x) (unused R k x) (longest_end R (unused R k x))) where
         restart_at :
-            (v : ℕ) → low < v → v ≤ length h → context_at R h a ≡ some v → longest_end R (unused R k x) ≡ drop (pred v) h
+            (v : ℕ) → low < v → v ≤ length h → context_at R h a ≡ Some v → longest_end R (unused R k x) ≡ drop (pred v) h
             → Placed h a (context_at R h a) (moved R k x)
         restart_at v u w o e =
             let one = drop_one h (pred v) (omega arith) in
@@ -366,7 +366,7 @@ module _ {E : Type 0} (R : Reading E) where
             split (suc n) (suc low) = ⊎_elim (λ (q : n ≤ low). inl (omega arith)) (λ (q : low < n). inr (omega arith)) (split n low)
 
         restart_none :
-            context_at R h a ≡ none → longest_end R (unused R k x) ≡ [] → Dead h low (suc (length h))
+            context_at R h a ≡ None → longest_end R (unused R k x) ≡ [] → Dead h low (suc (length h))
             → (b : Bool) → R.motion x ≡ b → Placed h a (context_at R h a) (moved R k x)
         restart_none o e f true b =
             let q : moved R k x ≡ record { events = drop low h; selected = 0; is_open = false }
@@ -438,8 +438,8 @@ module _ {E : Type 0} (R : Reading E) where
     -- a context from v is open, and o is selected
     tracks_opened :
         (v : ℕ) → 0 < v → v ≤ length h → m.is_open ≡ true → m.events ≡ drop (pred v) h
-        → m.selected ≡ suc a.last - v → (o : Option ℕ) → Tracks (stands R h a (some v) o) (marked R m o)
-    tracks_opened v p l i e s none =
+        → m.selected ≡ suc a.last - v → (o : Option ℕ) → Tracks (stands R h a (Some v) o) (marked R m o)
+    tracks_opened v p l i e s None =
         record {
           start = v;
           start>0 = p;
@@ -449,7 +449,7 @@ module _ {E : Type 0} (R : Reading E) where
           selected = s;
           which = inl (record { is_open = i; context = refl; latest = refl; within = l });
         }
-    tracks_opened v p l i e s (some q) =
+    tracks_opened v p l i e s (Some q) =
         record {
           start = v;
           start>0 = p;
@@ -467,7 +467,7 @@ module _ {E : Type 0} (R : Reading E) where
         let q : chosen_in R m ≡ R.chosen (drop (pred v) h) = rw (i, e) in
         rw (o, q) (record { tracks = tracks_opened v p l i e s (R.chosen (drop (pred v) h)); agrees = refl })
     finish c (shut v o i s e u w d g) =
-        let q : chosen_in R m ≡ none = rw i in
+        let q : chosen_in R m ≡ None = rw i in
         rw (o, q)
         (record {
           tracks = record {

@@ -3,7 +3,7 @@ use Prim.Native.Nat.{ℕ, zero, suc, ◌-◌}
 use mathlib.Core.Path.{◌≡◌, refl, ap, ap₂}
 use mathlib.Core.Logic.{⊎_elim}
 use mathlib.Core.Bool.{Bool, true, false, cond, not, ◌&&◌, ◌||◌}
-use mathlib.Core.Option.{Option, none, some}
+use Rattle.std.specs.Prelude.{Option, None, Some}
 use mathlib.Core.List.Memᴰ
 use mathlib.Core.List.{List, [], ◌∷◌, Memᴰ}
 use lib.Dec.{eqb, leb}
@@ -167,8 +167,8 @@ module _ {E : Type 0} where
 module _ (t : Table) (setting : Setting) where
   -- an event before is there in both stretches or in neither
   data Both : Option Event → Option Event → Type 0 where
-    neither : Both none none
-    both : {x y : Event} → Like (tests setting t) x y → Both (some x) (some y)
+    neither : Both None None
+    both : {x y : Event} → Like (tests setting t) x y → Both (Some x) (Some y)
 
   in_time_same : {a b : Option Event} {x y : Event} → Both a b → Like (tests setting t) x y → in_time setting a x ≡ in_time setting b y
   in_time_same neither l = refl

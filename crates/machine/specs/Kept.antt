@@ -23,8 +23,7 @@
 --     5 release     2 4 5         3         yes    y()
 --
 -- Those used up lie at or before the last selection.
-use Rattle.std.specs.Prelude.{ℕ, max, ◌≤◌, ◌<◌, ◌≡◌, Bool, true, false, cond, not, ◌&&◌, List, [], ◌∷◌, ◌++◌, eqb, ltb, length, drop}
-use Rattle.std.proofs.Math.Option.{Option, none, some}
+use Rattle.std.specs.Prelude.{ℕ, max, ◌≤◌, ◌<◌, ◌≡◌, Bool, true, false, cond, not, ◌&&◌, List, [], ◌∷◌, ◌++◌, eqb, ltb, length, drop, Option, None, Some}
 use Rattle.model.specs.Numbers.{match_order}
 use Rattle.model.specs.Tables.{Table}
 use Rattle.model.specs.Records.{record_read}
@@ -113,15 +112,15 @@ module _ {E : Type 0} (R : Reading E) where
 
   -- rule 4: nothing is selected where no context is open
   abbrev pub chosen_in : Kept E → Option ℕ
-  chosen_in k = cond k.is_open (R.chosen k.events) none
+  chosen_in k = cond k.is_open (R.chosen k.events) None
 
   unfoldable pub choice : Kept E → E → Option ℕ
   choice k x = chosen_in (moved (left k x) x)
 
   -- at a selection every event of the context is used up
   abbrev pub marked : Kept E → Option ℕ → Kept E
-  marked k none = k
-  marked k (some p) = record { events = k.events; selected = length k.events; is_open = k.is_open }
+  marked k None = k
+  marked k (Some p) = record { events = k.events; selected = length k.events; is_open = k.is_open }
 
   -- what is kept after an event that is heard
   unfoldable pub kept : Kept E → E → Kept E

@@ -1,7 +1,6 @@
 -- What the bounded matcher keeps after each event, in the examples at the head of Kept and in two more.
 -- That it does is proved in proofs/AllKept.
-use Rattle.std.specs.Prelude.{ℕ, ◌≡◌, Bool, true, false, List, [], ◌∷◌, map}
-use Rattle.std.proofs.Math.Option.{Option, none, some}
+use Rattle.std.specs.Prelude.{ℕ, ◌≡◌, Bool, true, false, List, [], ◌∷◌, map, Option, None, Some}
 use Rattle.model.specs.Lists.{bytes}
 use Rattle.model.specs.Numbers.{matched_selection}
 use Rattle.model.specs.Tables.{Table}
@@ -66,23 +65,23 @@ kept_examples =
       text = table_p;
       calls = press 1 1 ∷ release 2 2 ∷ release 1 3 ∷ press 1 4 ∷ release 1 5 ∷ release 1 6 ∷ [];
       rows =
-          row (1 ∷ []) 0 true none
-          ∷ row [] 0 false none
-          ∷ row (3 ∷ []) 1 true (some 1)
-          ∷ row (4 ∷ []) 0 true none
-          ∷ row (4 ∷ 5 ∷ []) 2 true (some 0)
-          ∷ row (6 ∷ []) 1 true (some 1)
+          row (1 ∷ []) 0 true None
+          ∷ row [] 0 false None
+          ∷ row (3 ∷ []) 1 true (Some 1)
+          ∷ row (4 ∷ []) 0 true None
+          ∷ row (4 ∷ 5 ∷ []) 2 true (Some 0)
+          ∷ row (6 ∷ []) 1 true (Some 1)
           ∷ [];
     }
     ∷ record {
       text = bytes "<BtnDown>,<BtnDown>,<BtnDown>:x()\n<BtnDown>,<Btn1Motion>,<BtnUp>:y()";
       calls = press 1 1 ∷ press 1 2 ∷ strayed 3 ∷ dragged 4 ∷ release 1 5 ∷ [];
       rows =
-          row (1 ∷ []) 0 true none
-          ∷ row (1 ∷ 2 ∷ []) 0 true none
-          ∷ row (2 ∷ 3 ∷ []) 0 false none
-          ∷ row (2 ∷ 4 ∷ []) 0 true none
-          ∷ row (2 ∷ 4 ∷ 5 ∷ []) 3 true (some 1)
+          row (1 ∷ []) 0 true None
+          ∷ row (1 ∷ 2 ∷ []) 0 true None
+          ∷ row (2 ∷ 3 ∷ []) 0 false None
+          ∷ row (2 ∷ 4 ∷ []) 0 true None
+          ∷ row (2 ∷ 4 ∷ 5 ∷ []) 3 true (Some 1)
           ∷ [];
     }
     -- a mark at the motion that is replaced falls back by one: 4 is not used up; and with a press it is forgotten
@@ -90,11 +89,11 @@ kept_examples =
       text = bytes "<BtnDown>,<BtnDown>,<Btn1Motion>:x()\n<BtnDown>,<Motion>,<BtnUp>:y()";
       calls = press 1 1 ∷ press 1 2 ∷ dragged 3 ∷ strayed 4 ∷ press 1 5 ∷ [];
       rows =
-          row (1 ∷ []) 0 true none
-          ∷ row (1 ∷ 2 ∷ []) 0 true none
-          ∷ row (1 ∷ 2 ∷ 3 ∷ []) 3 true (some 0)
-          ∷ row (4 ∷ []) 0 false none
-          ∷ row (5 ∷ []) 0 true none
+          row (1 ∷ []) 0 true None
+          ∷ row (1 ∷ 2 ∷ []) 0 true None
+          ∷ row (1 ∷ 2 ∷ 3 ∷ []) 3 true (Some 0)
+          ∷ row (4 ∷ []) 0 false None
+          ∷ row (5 ∷ []) 0 true None
           ∷ [];
     }
     -- a context opened at the motion that is replaced is closed; a release takes no motion's place; a refused call changes nothing
@@ -102,11 +101,11 @@ kept_examples =
       text = bytes "<Motion>Normal,<Btn1Up>:x()";
       calls = strayed 1 ∷ hinted 2 ∷ strayed 3 ∷ broken ∷ release 1 4 ∷ [];
       rows =
-          row (1 ∷ []) 0 true none
-          ∷ row (2 ∷ []) 0 false none
-          ∷ row (3 ∷ []) 0 true none
-          ∷ row (3 ∷ []) 0 true none
-          ∷ row (3 ∷ 4 ∷ []) 2 true (some 0)
+          row (1 ∷ []) 0 true None
+          ∷ row (2 ∷ []) 0 false None
+          ∷ row (3 ∷ []) 0 true None
+          ∷ row (3 ∷ []) 0 true None
+          ∷ row (3 ∷ 4 ∷ []) 2 true (Some 0)
           ∷ [];
     }
     ∷ []

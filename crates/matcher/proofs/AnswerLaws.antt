@@ -5,7 +5,7 @@ use borrow.Author.Tests.{eqb-true}
 use mathlib.Core.Path.{◌≡◌, refl, sym, ap, ◌∙◌}
 use mathlib.Core.Bool.{Bool, true, false, cond}
 use mathlib.Core.List.{List}
-use mathlib.Core.Option.{Option, none, some}
+use Rattle.std.specs.Prelude.{Option, None, Some}
 use lib.Dec.{eqb}
 use Rattle.model.specs.Numbers.{matched_number, matched_selection}
 use Rattle.model.specs.Setting.{Setting}
@@ -33,16 +33,16 @@ use Rattle.matcher.proofs.NextLaws.{accepted_whole}
 
 module _ (t : Table) (setting : Setting) where
   selection_number : (o : Option ℕ) → matched_number (selection t setting o) ≡ 0
-  selection_number none = refl
-  selection_number (some p) = refl
+  selection_number None = refl
+  selection_number (Some p) = refl
 
   selection_is : (o : Option ℕ) → matched_selection (selection t setting o) ≡ o
-  selection_is none = refl
-  selection_is (some p) = refl
+  selection_is None = refl
+  selection_is (Some p) = refl
 
   not_dropped : (o : Option ℕ) → selection t setting o ≡ Matched.Dropped → ⊥
-  not_dropped none e = let z : ◌≡◌ {A = ℕ} 0 1 = cc in omega arith
-  not_dropped (some p) e = let z : ◌≡◌ {A = ℕ} 0 1 = cc in omega arith
+  not_dropped None e = let z : ◌≡◌ {A = ℕ} 0 1 = cc in omega arith
+  not_dropped (Some p) e = let z : ◌≡◌ {A = ℕ} 0 1 = cc in omega arith
 
   -- what the matcher answers to an event of a type that some production has, or none
   abbrev acts : Bool → Kept Event → Event → Step
@@ -53,7 +53,7 @@ module _ (t : Table) (setting : Setting) where
   acts_number false k x = refl
 
   acts_selection : (b : Bool) (k : Kept Event) (x : Event)
-      → matched_selection (acts b k x).answer ≡ cond b (choice (reading_of t setting) k x) none
+      → matched_selection (acts b k x).answer ≡ cond b (choice (reading_of t setting) k x) None
   acts_selection true k x = selection_is (choice (reading_of t setting) k x)
   acts_selection false k x = refl
 
@@ -122,7 +122,7 @@ module _ (table : List ℕ) (setting : Setting) (s : State) (c : MatchCall) wher
   -- ---- The laws
 
   refused_by : (b : Bool) → eqb number 0 ≡ b → (matched_number answer.matched ≡ 0 → ⊥)
-      → (matched_selection answer.matched ≡ none) × (answer.state ≡ s)
+      → (matched_selection answer.matched ≡ None) × (answer.state ≡ s)
   refused_by true q f = absurd (f (answer_number ∙ eqb-true number 0 q))
   refused_by false q f = (
     ap (λ (a : Answer). matched_selection a.matched) (refused_is q),
@@ -134,7 +134,7 @@ module _ (table : List ℕ) (setting : Setting) (s : State) (c : MatchCall) wher
       → ◌≡◌ {A = Answer} (record { matched = Matched.Dropped; state = s }) answer
   unknown_by y e r q = dropped_call table setting s c (past_all table setting s c e).0 y r q
 
-  dropped_by : answer.matched ≡ Matched.Dropped → (matched_selection answer.matched ≡ none) × (answer.state ≡ s)
+  dropped_by : answer.matched ≡ Matched.Dropped → (matched_selection answer.matched ≡ None) × (answer.state ≡ s)
   dropped_by d =
       let e : number ≡ 0 = sym answer_number ∙ ap matched_number d in
       let q = acts_dropped (decode table) setting ((reading_of (decode table) setting).known x) (kept_of s) x (sym (accepted_matched e) ∙ d) in

@@ -4,7 +4,7 @@ use native.Mathlib.Omega.{arith}
 use borrow.Author.Tests.{eq-eqb}
 use mathlib.Core.Path.{◌≡◌, refl}
 use mathlib.Core.Bool.{Bool, true, false, cond, ◌&&◌}
-use mathlib.Core.Option.{Option, none, some}
+use Rattle.std.specs.Prelude.{Option, None, Some}
 use mathlib.Core.List.{List, [], ◌∷◌}
 use lib.Dec.{eqb}
 use lib.ListN.{length, drop, length-drop}
@@ -68,8 +68,8 @@ module _ (R : Reading Event) where
           ranges_reopened (R.motion x) (unused R k x) (longest_end R (unused R k x)) rest (ranges_longest (unused R k x) rest)
 
   ranges_marked : (k : Kept Event) (o : Option ℕ) → InRanges k.events → InRanges (marked R k o).events
-  ranges_marked k none r = r
-  ranges_marked k (some p) r = r
+  ranges_marked k None r = r
+  ranges_marked k (Some p) r = r
 
   ranges_kept : (k : Kept Event) (x : Event) → InRanges k.events → EventRanges x → InRanges (kept R k x).events
   unfolding kept

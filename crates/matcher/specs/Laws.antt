@@ -1,7 +1,6 @@
 -- What document 01 says of every call of `match_event`, about the values that it answers: for all bytes, states and records.
 -- Shown in proofs/AnswerLaws.
-use Rattle.std.specs.Prelude.{ℕ, ◌≡◌, true, false, List}
-use Rattle.std.proofs.Math.Option.{none}
+use Rattle.std.specs.Prelude.{ℕ, ◌≡◌, true, false, List, None}
 use Rattle.model.specs.Numbers.{matched_number, matched_selection}
 use Rattle.model.specs.Setting.{Setting}
 use Rattle.model.specs.Records.{record_read}
@@ -19,7 +18,7 @@ pub record AnswerLaws (table : List ℕ) (setting : Setting) (s : State) (bytes 
   -- "A refused matcher call keeps the state and selects none."
   pub refused :
       (matched_number (match_answer table setting s bytes order).matched ≡ 0 → ⊥)
-      → (matched_selection (match_answer table setting s bytes order).matched ≡ none)
+      → (matched_selection (match_answer table setting s bytes order).matched ≡ None)
       × ((match_answer table setting s bytes order).state ≡ s)
   -- rule 1: "An event whose type no production has, expansion included, is dropped"
   pub unknown :
@@ -29,7 +28,7 @@ pub record AnswerLaws (table : List ℕ) (setting : Setting) (s : State) (bytes 
   -- "none selected, state unchanged"
   pub dropped :
       (match_answer table setting s bytes order).matched ≡ Matched.Dropped
-      → (matched_selection (match_answer table setting s bytes order).matched ≡ none)
+      → (matched_selection (match_answer table setting s bytes order).matched ≡ None)
       × ((match_answer table setting s bytes order).state ≡ s)
   -- "Every .. state that an accepted call gives is whole"
   pub accepted :

@@ -1,6 +1,5 @@
 -- The matcher's answer, as a definition of its input alone.
-use Rattle.std.specs.Prelude.{ℕ, Bool, false, cond, not, ◌||◌, List, eqb, ltb, length}
-use Rattle.std.proofs.Math.Option.{Option, none}
+use Rattle.std.specs.Prelude.{ℕ, Bool, false, cond, not, ◌||◌, List, eqb, ltb, length, Option, None}
 use Rattle.model.specs.Limits.{map_length}
 use Rattle.model.specs.Numbers.{MatchChecks, match_order}
 use Rattle.model.specs.Setting.{Setting}
@@ -56,15 +55,15 @@ match_number table setting s c =
 
 -- what rule 4 selects at an event that is heard
 abbrev pub read_selection : Table → Setting → Kept Event → RecordRead → Option ℕ
-read_selection t setting k (RecordRead.Event x) = cond ((reading_of t setting).known x) (choice (reading_of t setting) k x) none
-read_selection t setting k (RecordRead.Refused n) = none
+read_selection t setting k (RecordRead.Event x) = cond ((reading_of t setting).known x) (choice (reading_of t setting) k x) None
+read_selection t setting k (RecordRead.Refused n) = None
 
 -- and at a call that is accepted
 unfoldable pub match_selection : (table : List ℕ) → Setting → State → MatchCall → Option ℕ
 match_selection table setting s c =
     cond (eqb (match_number table setting s c) 0)
     (read_selection (decode table) setting (kept_of s) (record_read c.bytes c.order))
-    none
+    None
 
 -- ---- The whole answer: the case, and the state for the next call
 

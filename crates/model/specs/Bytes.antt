@@ -1,7 +1,6 @@
 -- Document 01, "The text": bytes, runs of bytes, blanks.
-use Rattle.std.specs.Prelude.{ℕ, suc, ◌+◌, Bool, cond, not, ◌&&◌, ◌||◌, List, [], ◌∷◌, leb, eqb, get_or, drop}
+use Rattle.std.specs.Prelude.{ℕ, suc, ◌+◌, Bool, cond, not, ◌&&◌, ◌||◌, List, [], ◌∷◌, leb, eqb, get_or, drop, Option}
 use Prim.Native.Char.{Char, code}
-use Rattle.std.proofs.Math.Option.{Option}
 use Rattle.model.specs.Lists.{earliest}
 use Rattle.model.specs.declared.scan.Class.{Class}
 

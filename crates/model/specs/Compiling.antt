@@ -1,8 +1,7 @@
 -- Document 01, "Numbers handed back" and "The text": what a text compiles to.
 -- The recursion with fuel need not be believed by a reader who believes grammar/specs/Compiling and Exact (see Events): `lines_from`
 -- and what it calls compute the outcome that the relation `Compiles` there gives. Out of fuel reads as a refusal, and is never reached.
-use Rattle.std.specs.Prelude.{ℕ, zero, suc, ◌+◌, Bool, false, cond, ◌||◌, List, [], ◌∷◌, ◌++◌, map, leb, ltb, length}
-use Rattle.std.proofs.Math.Option.{Option, none, some}
+use Rattle.std.specs.Prelude.{ℕ, zero, suc, ◌+◌, Bool, false, cond, ◌||◌, List, [], ◌∷◌, ◌++◌, map, leb, ltb, length, Option, None, Some}
 use Rattle.model.specs.Lists.{any, in_all}
 use Rattle.model.specs.Limits.{text_limit, production_limit, sequence_limit, event_limit, calls_of_production_limit, call_limit, parameters_of_call_limit, parameter_limit}
 use Rattle.model.specs.Numbers.{short_buffer, long_text, bad_byte, not_grammar, past_limit}
@@ -143,8 +142,8 @@ after_line text at directive ps (add p) rest = go_on text (line_end text at) dir
 after_line text at directive ps (LineOutcome.refuse n) rest = refused n at
 
 abbrev pub after_directive : List ℕ → ℕ → Directive → List Production → Option Directive → (ℕ → Directive → List Production → Outcome) → Outcome
-after_directive text at directive ps (some d) rest = go_on text (line_end text at) d ps rest
-after_directive text at directive ps none rest =
+after_directive text at directive ps (Some d) rest = go_on text (line_end text at) d ps rest
+after_directive text at directive ps None rest =
     cond (is_blank_line (line_at text at))
     (go_on text (line_end text at) directive ps rest)
     (after_line text at directive ps (line_outcome ps at (line_at text at)) rest)
@@ -165,8 +164,8 @@ lines_of text = lines_from (length text + 1) text 0 Directive.Replace []
 
 -- "then 3 over the whole text, then line by line"; "The place is the byte for 3"
 abbrev pub after_bytes : List ℕ → Option ℕ → Outcome
-after_bytes text (some place) = refused bad_byte place
-after_bytes text none = lines_of text
+after_bytes text (Some place) = refused bad_byte place
+after_bytes text None = lines_of text
 
 -- what a text compiles to
 unfoldable pub compiled : List ℕ → Outcome

@@ -1,8 +1,7 @@
 -- Demand 3: one claim about every list of matcher calls (document 01, "Selection", from "Demand 3 is a single claim"; document 02,
 -- R-2: "Demand 3 reads by these steps over every heard event in turn").
-use Rattle.std.specs.Prelude.{ℕ, ◌≤◌, ◌≡◌, ◌⊎◌, Bool, true, false, cond, not, eqb, length, take}
+use Rattle.std.specs.Prelude.{ℕ, ◌≤◌, ◌≡◌, ◌⊎◌, Bool, true, false, cond, not, eqb, length, take, Option, None, Some}
 use mathlib.Core.List.{List, [], ◌∷◌, ◌++◌, Memᴰ}
-use Rattle.std.proofs.Math.Option.{Option, none, some}
 use Rattle.model.specs.Lists.{given, beginning}
 use Rattle.model.specs.Limits.{map_length}
 use Rattle.model.specs.Numbers.{MatchChecks, match_order, matched_number, matched_selection}
@@ -77,8 +76,8 @@ module _ (t : Table) (setting : Setting) where
   standing_after cs = standing (reading_of t setting) (heard_all cs)
 
   abbrev pub selection : Option ℕ → Matched
-  selection none = Matched.Heard
-  selection (some p) = Matched.Selected p
+  selection None = Matched.Heard
+  selection (Some p) = Matched.Selected p
 
   -- a call that no number refuses, the last of a list
   abbrev pub named_heard : List MatchCall → List Event → Matched
@@ -157,7 +156,7 @@ pub record Demand3 {S : Type 0} (m : Matcher S) (t : Table) (setting : Setting) 
   pub refuses :
       (before rest : List MatchCall) (c : MatchCall) → cs ≡ before ++ (c ∷ rest)
       → (matched_number (m.answer (state_after m m.fresh before) c) ≡ 0 → ⊥)
-      → (matched_selection (m.answer (state_after m m.fresh before) c) ≡ none)
+      → (matched_selection (m.answer (state_after m m.fresh before) c) ≡ None)
       × (m.next (state_after m m.fresh before) c ≡ state_after m m.fresh before)
   -- of the selections at heard events i and j, whose events are those of the contexts open there
   pub apart :

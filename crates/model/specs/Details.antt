@@ -1,6 +1,5 @@
 -- Document 01, "The text", "Details": what a written detail stands for.
-use Rattle.std.specs.Prelude.{ℕ, ◌+◌, ◌-◌, ◌*◌, Bool, cond, not, ◌&&◌, ◌||◌, List, [], ◌∷◌, ◌++◌, eqb, ltb, length, drop}
-use Rattle.std.proofs.Math.Option.{Option, none, some}
+use Rattle.std.specs.Prelude.{ℕ, ◌+◌, ◌-◌, ◌*◌, Bool, cond, not, ◌&&◌, ◌||◌, List, [], ◌∷◌, ◌++◌, eqb, ltb, length, drop, Option, None, Some}
 use Rattle.model.specs.Limits.{keysym_limit, small_detail_limit}
 use Rattle.model.specs.Numbers.{no_refusal, unknown_name, bad_number, not_built}
 use Rattle.model.specs.Bytes.{is_code, in_range, byte_at, is_digit}
@@ -29,14 +28,14 @@ digit_value b =
 
 -- the value of digits in a base, `sofar` read before them; none where a byte is no digit of the base
 unfoldable pub digits_from : ℕ → ℕ → List ℕ → Option ℕ
-digits_from base sofar [] = some sofar
+digits_from base sofar [] = Some sofar
 digits_from base sofar (b ∷ bs) =
-    cond (ltb (digit_value b) base) (digits_from base (sofar * base + digit_value b) bs) none
+    cond (ltb (digit_value b) base) (digits_from base (sofar * base + digit_value b) bs) None
 
 -- "A malformed number is 5; one too large, 6."
 abbrev pub within_limit : ℕ → Option ℕ → DetailRead
-within_limit limit none = DetailRead.Unknown
-within_limit limit (some v) = cond (ltb limit v) DetailRead.TooLarge (DetailRead.Value v)
+within_limit limit None = DetailRead.Unknown
+within_limit limit (Some v) = cond (ltb limit v) DetailRead.TooLarge (DetailRead.Value v)
 
 -- at least one digit, and nothing else
 unfoldable pub number_in : ℕ → ℕ → List ℕ → DetailRead

@@ -1,8 +1,7 @@
 -- Document 01, "The text": an event as it is written, and a key sequence, read at a position of a line.
 -- The recursion with fuel computes what the grammar derives: a reader who believes the relation of grammar/specs/Compiling and the
 -- statement of grammar/specs/Exact, which is proved, need not believe the recursion. Out of fuel reads as broken.
-use Rattle.std.specs.Prelude.{ℕ, zero, suc, ◌+◌, Bool, true, false, cond, not, ◌&&◌, ◌||◌, List, [], ◌∷◌, ◌++◌, eqb, leb, length}
-use Rattle.std.proofs.Math.Option.{Option, none, some}
+use Rattle.std.specs.Prelude.{ℕ, zero, suc, ◌+◌, Bool, true, false, cond, not, ◌&&◌, ◌||◌, List, [], ◌∷◌, ◌++◌, eqb, leb, length, Option, None, Some}
 use Rattle.model.specs.Lists.{bytes, same, part, any}
 use Rattle.model.specs.Bytes.{is_tab, byte_at, sign_at, run_end, skip}
 use Rattle.model.specs.declared.scan.Class.{Class}
@@ -139,8 +138,8 @@ lone_list ms = cond (any (is_named (bytes "None")) ms) no_modifier any_modifier
 unfoldable pub list_of : Bool → Bool → List Modifier → Option ModifierList
 list_of bang colon ms =
     cond (any is_none_or_any ms)
-    (cond (stands_alone bang colon ms) (some (lone_list ms)) none)
-    (some (listed bang colon ms))
+    (cond (stands_alone bang colon ms) (Some (lone_list ms)) None)
+    (Some (listed bang colon ms))
 
 -- ---- `<type>`, count and detail
 
@@ -195,17 +194,17 @@ with_detail l list word count start =
 
 abbrev pub with_count : List ℕ → ModifierList → List ℕ → CountRead → EventsRead
 with_count l list word CountRead.Broken = EventsRead.broken
-with_count l list word (CountRead.Absent next) = with_detail l list word none (skip l next)
+with_count l list word (CountRead.Absent next) = with_detail l list word None (skip l next)
 with_count l list word (CountRead.Digits start end plus next) =
-    with_detail l list word (some (record { digits = part l start end; plus = plus })) (skip l next)
+    with_detail l list word (Some (record { digits = part l start end; plus = plus })) (skip l next)
 
 abbrev pub with_type : List ℕ → ModifierList → TypeRead → EventsRead
 with_type l list TypeRead.Broken = EventsRead.broken
 with_type l list (TypeRead.Type start end next) = with_count l list (part l start end) (count_at l next)
 
 abbrev pub with_list : List ℕ → Option ModifierList → ℕ → EventsRead
-with_list l none end = EventsRead.broken
-with_list l (some list) end = with_type l list (type_at l end)
+with_list l None end = EventsRead.broken
+with_list l (Some list) end = with_type l list (type_at l end)
 
 abbrev pub with_modifiers : List ℕ → Lead → Modifiers → EventsRead
 with_modifiers l lead Modifiers.broken = EventsRead.broken

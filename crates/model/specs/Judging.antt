@@ -1,6 +1,5 @@
 -- Document 01, "Numbers handed back", 5..10, and request R-1: an event of a line, refused or kept.
-use Rattle.std.specs.Prelude.{ℕ, ◌-◌, ◌^◌, Bool, true, false, cond, not, ◌&&◌, ◌||◌, List, eqb, length}
-use Rattle.std.proofs.Math.Option.{Option, none, some}
+use Rattle.std.specs.Prelude.{ℕ, ◌-◌, ◌^◌, Bool, true, false, cond, not, ◌&&◌, ◌||◌, List, eqb, length, Option, None, Some}
 use Rattle.model.specs.Lists.{any, is_empty}
 use Rattle.model.specs.Numbers.{no_refusal, unknown_name, bad_number, not_built, past_limit, event_order}
 use Rattle.model.specs.Bytes.{in_range, byte_at}
@@ -90,18 +89,18 @@ is_one_digit digits = eqb (length digits) 1 && in_range 49 (byte_at digits 0) 57
 
 -- "count not one digit 1..9, count on other than key or button events"
 abbrev pub count_bad : ℕ → Option Count → Bool
-count_bad code none = false
-count_bad code (some c) = not (takes_count code) || not (is_one_digit c.digits)
+count_bad code None = false
+count_bad code (Some c) = not (takes_count code) || not (is_one_digit c.digits)
 
 -- "counts with `+`"
 abbrev pub count_unbuilt : Option Count → Bool
-count_unbuilt none = false
-count_unbuilt (some c) = c.plus
+count_unbuilt None = false
+count_unbuilt (Some c) = c.plus
 
 -- "Count 1 reads as no count."
 abbrev pub count_value : Option Count → ℕ
-count_value none = 1
-count_value (some c) = byte_at c.digits 0 - 48
+count_value None = 1
+count_value (Some c) = byte_at c.digits 0 - 48
 
 -- ---- The checks on one event
 

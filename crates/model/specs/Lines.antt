@@ -1,6 +1,5 @@
 -- Document 01, "The text": lines and the directive.
-use Rattle.std.specs.Prelude.{ℕ, Bool, cond, List, eqb, length}
-use Rattle.std.proofs.Math.Option.{Option, none, some}
+use Rattle.std.specs.Prelude.{ℕ, Bool, cond, List, eqb, length, Option, None, Some}
 use Rattle.model.specs.Lists.{bytes, same, part}
 use Rattle.model.specs.Bytes.{run_end, skip}
 use Rattle.model.specs.declared.scan.Class.{Class}
@@ -21,10 +20,10 @@ is_blank_line line = eqb (skip line 0) (length line)
 -- "`#replace`, `#override` or `#augment` may stand as the whole first line"
 unfoldable pub directive_of : List ℕ → Option Directive
 directive_of line =
-    cond (same line (bytes "#replace")) (some Directive.Replace)
-    (cond (same line (bytes "#override")) (some Directive.Override)
-    (cond (same line (bytes "#augment")) (some Directive.Augment) none))
+    cond (same line (bytes "#replace")) (Some Directive.Replace)
+    (cond (same line (bytes "#override")) (Some Directive.Override)
+    (cond (same line (bytes "#augment")) (Some Directive.Augment) None))
 
 -- "from byte 0"
 unfoldable pub directive_at : List ℕ → ℕ → Option Directive
-directive_at text at = cond (eqb at 0) (directive_of (line_at text 0)) none
+directive_at text at = cond (eqb at 0) (directive_of (line_at text 0)) None

@@ -1,8 +1,7 @@
 -- Lists: what the rules of document 01 say in ordinary words, "some", "every", "the earliest", "in all".
-use Rattle.std.specs.Prelude.{ℕ, suc, ◌+◌, ◌-◌, Bool, true, false, cond, ◌&&◌, ◌||◌, List, [], ◌∷◌, eqb, ltb, take, drop}
+use Rattle.std.specs.Prelude.{ℕ, suc, ◌+◌, ◌-◌, Bool, true, false, cond, ◌&&◌, ◌||◌, List, [], ◌∷◌, eqb, ltb, take, drop, Option, None, Some}
 use Prim.Native.Char.{code}
 use Prim.Native.String.{String}
-use Rattle.std.proofs.Math.Option.{Option, none, some}
 
 -- the bytes of a text in ISO Latin-1
 abbrev pub bytes : String → List ℕ
@@ -45,8 +44,8 @@ module _ {A : Type 0} where
 
   -- the place of the earliest element that passes the test; the first of the list has the place i
   abbrev pub earliest : (A → Bool) → ℕ → List A → Option ℕ
-  earliest test i [] = none
-  earliest test i (x ∷ xs) = cond (test x) (some i) (earliest test (suc i) xs)
+  earliest test i [] = None
+  earliest test i (x ∷ xs) = cond (test x) (Some i) (earliest test (suc i) xs)
 
   -- the sum of a measure over all elements
   abbrev pub in_all : (A → ℕ) → List A → ℕ
@@ -55,13 +54,13 @@ module _ {A : Type 0} where
 
   -- something is given
   abbrev pub given : Option A → Bool
-  given none = false
-  given (some a) = true
+  given None = false
+  given (Some a) = true
 
   abbrev pub is_empty : List A → Bool
   is_empty [] = true
   is_empty (x ∷ xs) = false
 
   abbrev pub beginning : List A → Option A
-  beginning [] = none
-  beginning (x ∷ xs) = some x
+  beginning [] = None
+  beginning (x ∷ xs) = Some x

@@ -1,6 +1,5 @@
 -- Document 01, "Modifier tests" and "Selection", rule 2: when events match the elements of a production; which bits a table tests.
-use Rattle.std.specs.Prelude.{ℕ, Bool, true, false, cond, not, ◌&&◌, ◌||◌, List, [], ◌∷◌, eqb, length}
-use Rattle.std.proofs.Math.Option.{Option, none, some}
+use Rattle.std.specs.Prelude.{ℕ, Bool, true, false, cond, not, ◌&&◌, ◌||◌, List, [], ◌∷◌, eqb, length, Option, None, Some}
 use Rattle.model.specs.Lists.{any, earliest}
 use Rattle.model.specs.Codes.{is_key, is_motion}
 use Rattle.model.specs.Names.{first_button_bit, last_button_bit}
@@ -36,8 +35,8 @@ meets setting el x =
 
 -- the event comes quickly enough after the one two before it in the stretch
 abbrev pub in_time : Setting → Option Event → Event → Bool
-in_time setting none x = true
-in_time setting (some before) x = quick setting.time before.time x.time
+in_time setting None x = true
+in_time setting (Some before) x = quick setting.time before.time x.time
 
 abbrev pub fits : Setting → Option Event → Element → Event → Bool
 fits setting twoBefore el x = meets setting el x && (not el.timed || in_time setting twoBefore x)
@@ -47,11 +46,11 @@ unfoldable pub follows : Setting → Option Event → Option Event → List Elem
 follows setting twoBefore oneBefore els [] = true
 follows setting twoBefore oneBefore [] (x ∷ xs) = false
 follows setting twoBefore oneBefore (el ∷ els) (x ∷ xs) =
-    fits setting twoBefore el x && follows setting oneBefore (some x) els xs
+    fits setting twoBefore el x && follows setting oneBefore (Some x) els xs
 
 -- "A stretch reads as a prefix of a production"
 unfoldable pub reads_as_prefix : Setting → List Event → Production → Bool
-reads_as_prefix setting xs p = follows setting none none (sequence p) xs
+reads_as_prefix setting xs p = follows setting None None (sequence p) xs
 
 -- "whose whole sequence the stretch is"
 unfoldable pub is_whole_sequence : Setting → List Event → Production → Bool

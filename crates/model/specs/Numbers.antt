@@ -1,6 +1,5 @@
 -- Document 01, "Numbers handed back": the numbers, and for each operation the order of its checks.
-use Rattle.std.specs.Prelude.{ℕ, Bool, true, false, cond, List, [], ◌∷◌}
-use Rattle.std.proofs.Math.Option.{Option, none, some}
+use Rattle.std.specs.Prelude.{ℕ, Bool, true, false, cond, List, [], ◌∷◌, Option, None, Some}
 use Rattle.model.specs.declared.answers.Compiled.{Compiled}
 use Rattle.model.specs.declared.answers.Merged.{Merged}
 use Rattle.model.specs.declared.answers.Written.{Written}
@@ -235,8 +234,8 @@ record_number (RecordRead.Refused n) = n
 
 -- "Reading a record answers an event or a refusal"
 abbrev pub record_event : RecordRead → Option Event
-record_event (RecordRead.Event e) = some e
-record_event (RecordRead.Refused n) = none
+record_event (RecordRead.Event e) = Some e
+record_event (RecordRead.Refused n) = None
 
 -- a dropped event is accepted: "none selected, state unchanged"
 abbrev pub matched_number : Matched → ℕ
@@ -246,7 +245,7 @@ matched_number Matched.Heard = no_refusal
 matched_number (Matched.Selected p) = no_refusal
 
 abbrev pub matched_selection : Matched → Option ℕ
-matched_selection (Matched.Refused n) = none
-matched_selection Matched.Dropped = none
-matched_selection Matched.Heard = none
-matched_selection (Matched.Selected p) = some p
+matched_selection (Matched.Refused n) = None
+matched_selection Matched.Dropped = None
+matched_selection Matched.Heard = None
+matched_selection (Matched.Selected p) = Some p

@@ -21,8 +21,7 @@
 --     4 release 1   1 3 4     1              1              3                drop()
 --
 -- Each line is what stands after that event; `context`, `latest`, `last` and `selected` are fields of `Standing`.
-use Rattle.std.specs.Prelude.{ℕ, zero, suc, pred, max, ◌-◌, Bool, false, cond, ◌&&◌, List, [], ◌∷◌, ◌++◌, eqb, length, take, drop}
-use Rattle.std.proofs.Math.Option.{Option, none, some}
+use Rattle.std.specs.Prelude.{ℕ, zero, suc, pred, max, ◌-◌, Bool, false, cond, ◌&&◌, List, [], ◌∷◌, ◌++◌, eqb, length, take, drop, Option, None, Some}
 
 -- What the rules ask of a table.
 pub record Reading (E : Type 0) : Type 0 where
@@ -55,7 +54,7 @@ pub record Standing (E : Type 0) : Type 0 where
 -- "No context is open at first."
 abbrev pub at_first : {E : Type 0} → Standing E
 at_first =
-    record { history = []; numbers = []; number = 0; context = none; latest = 0; last = 0; selected = none }
+    record { history = []; numbers = []; number = 0; context = None; latest = 0; last = 0; selected = None }
 
 module _ {A : Type 0} where
   -- the stretch from place s of a history to its last
@@ -80,8 +79,8 @@ falls_back place mark = cond (eqb mark place) (pred mark) mark
 
 -- "(a context opened at it is closed)"
 abbrev pub closed_at : (place : ℕ) → Option ℕ → Option ℕ
-closed_at place none = none
-closed_at place (some s) = cond (eqb s place) none (some s)
+closed_at place None = None
+closed_at place (Some s) = cond (eqb s place) None (Some s)
 
 module _ {E : Type 0} where
   -- "the earlier one is gone"
@@ -101,18 +100,18 @@ module _ {E : Type 0} where
 
 -- of `many` numbers from n on, the smallest that passes the test
 unfoldable pub smallest : (ℕ → Bool) → ℕ → ℕ → Option ℕ
-smallest test n zero = none
-smallest test n (suc many) = cond (test n) (some n) (smallest test (suc n) many)
+smallest test n zero = None
+smallest test n (suc many) = cond (test n) (Some n) (smallest test (suc n) many)
 
 -- "the latest start there was", where a context from s is open, or none
 abbrev pub latest_of : Option ℕ → ℕ → ℕ
-latest_of none latest = latest
-latest_of (some s) latest = s
+latest_of None latest = latest
+latest_of (Some s) latest = s
 
 -- "the last event at which anything was selected", where t is the place of the event that is judged
 abbrev pub last_of : ℕ → Option ℕ → ℕ → ℕ
-last_of t none last = last
-last_of t (some p) last = t
+last_of t None last = last
+last_of t (Some p) last = t
 
 module _ {E : Type 0} (R : Reading E) where
   -- "a motion event directly after another motion event in the history replaces it"
@@ -125,8 +124,8 @@ module _ {E : Type 0} (R : Reading E) where
 
   -- "if a context from s is open and s..t reads as a prefix of some production"
   abbrev pub goes_on : List E → Option ℕ → Bool
-  goes_on history none = false
-  goes_on history (some s) = R.prefix (stretch history s)
+  goes_on history None = false
+  goes_on history (Some s) = R.prefix (stretch history s)
 
   -- "after both s (the latest start there was ..) and the last event at which anything was selected"
   abbrev pub after : Standing E → ℕ
@@ -143,8 +142,8 @@ module _ {E : Type 0} (R : Reading E) where
 
   -- rule 4: "the earliest production whose whole sequence the stretch is, or none"
   abbrev pub selected_at : List E → Option ℕ → Option ℕ
-  selected_at history none = none
-  selected_at history (some s) = R.chosen (stretch history s)
+  selected_at history None = None
+  selected_at history (Some s) = R.chosen (stretch history s)
 
   -- what stands after the event, where `a` stood before, this context is open and this is selected
   abbrev pub stands : List E → Standing E → Option ℕ → Option ℕ → Standing E
@@ -183,8 +182,8 @@ module _ {E : Type 0} (R : Reading E) where
 
 -- the numbers from the start of a context on
 abbrev pub heard_from : List ℕ → Option ℕ → List ℕ
-heard_from numbers none = []
-heard_from numbers (some s) = stretch numbers s
+heard_from numbers None = []
+heard_from numbers (Some s) = stretch numbers s
 
 module _ {E : Type 0} where
   -- the numbers of the heard events in the open context

@@ -1,7 +1,6 @@
 -- Document 01, "Selection", "A bit is tested by a table", and R-1: some texts, and the bits that their tables test.
 -- That the definitions give them is proved in proofs/Tested.
-use Rattle.std.specs.Prelude.{ℕ, ◌≡◌, List, [], ◌∷◌, map}
-use Rattle.std.proofs.Math.Option.{Option, none, some}
+use Rattle.std.specs.Prelude.{ℕ, ◌≡◌, List, [], ◌∷◌, map, Option, None, Some}
 use Rattle.model.specs.Lists.{bytes, those}
 use Rattle.model.specs.Modifiers.{bits, button_bits}
 use Rattle.model.specs.Compiling.{Outcome, accepted, refused, compiled}
@@ -11,8 +10,8 @@ use Rattle.model.specs.NamedExamples.{rows, under}
 
 -- the bits that a text's table tests under a modifier map, if it is accepted
 abbrev pub tested_bits : List ℕ → Outcome → Option (List ℕ)
-tested_bits modifiers (accepted t) = some (those (tests (under modifiers) t) bits)
-tested_bits modifiers (refused n place) = none
+tested_bits modifiers (accepted t) = Some (those (tests (under modifiers) t) bits)
+tested_bits modifiers (refused n place) = None
 
 pub record TestedExample : Type 0 where
   pub text : List ℕ
@@ -48,4 +47,4 @@ tested_examples =
     ∷ []
 
 abbrev pub AllTested : List TestedExample → Type 0
-AllTested es = map (λ e. tested_bits e.modifiers (compiled e.text)) es ≡ map (λ e. some e.tested) es
+AllTested es = map (λ e. tested_bits e.modifiers (compiled e.text)) es ≡ map (λ e. Some e.tested) es

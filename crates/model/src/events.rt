@@ -1,5 +1,5 @@
 // An event as a 32-byte record gives it. Fields not named for its type are 0.
-#[derive(Clone, Copy)]
+#[derive(Clone, Copy, Debug, PartialEq, Eq)]
 pub struct Event {
     pub code: u8,
     // Keycode, button, motion detail, mode or request.
@@ -10,7 +10,7 @@ pub struct Event {
 }
 
 // What an event of a production asks of the detail.
-#[derive(Clone, Copy)]
+#[derive(Clone, Copy, Debug, PartialEq, Eq)]
 pub enum Detail {
     // Any value.
     Unspecified,
@@ -20,7 +20,7 @@ pub enum Detail {
 
 // The keysyms that an event names after `@`, rising, in the first places that there are. One is the keysym itself, with
 // 0x20000000 added where it is listed and 0x40000000 added where it is listed with `~`; 0 stands for none.
-#[derive(Clone, Copy)]
+#[derive(Clone, Copy, Debug, PartialEq, Eq)]
 pub struct Keysyms {
     pub first: u32,
     pub second: u32,
@@ -29,7 +29,7 @@ pub struct Keysyms {
 }
 
 // An event of a production as a table keeps it, before expansion.
-#[derive(Clone, Copy)]
+#[derive(Clone, Copy, Debug, PartialEq, Eq)]
 pub struct KeptEvent {
     pub code: u8,
     // Modifier bits asked set, and asked clear.

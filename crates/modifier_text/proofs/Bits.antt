@@ -1,34 +1,24 @@
 -- The texts that are written, one more place at a time, and when `!` is written.
-use Prim.Native.Nat.{ℕ, zero, suc, ◌+◌, ◌-◌, ◌≤◌, ◌<◌}
+use Prim.Native.Nat.{ℕ, zero, suc, ◌+◌, ◌-◌, ◌<◌}
 use native.Mathlib.Omega.{arith}
 use native.Mathlib.Nat.{zero-add}
 use mathlib.Core.Path.{◌≡◌, refl, sym, ap, ap₂, ◌∙◌}
 use mathlib.Core.List.{List, [], ◌∷◌, ◌++◌, append-nil}
-use mathlib.Core.Bool.{Bool, true, false, cond, not, ◌&&◌, ◌||◌, and-false, true≢false, false≢true}
-use lib.Dec.{ltb, leb}
+use mathlib.Core.Bool.{Bool, true, false, cond, true≢false, false≢true}
+use lib.Dec.{ltb}
 use lib.ListN.{length, length-append}
-use borrow.Author.Tests.{le-leb, lt-leb, lt-ltb, le-ltb}
-use Rattle.words.specs.Runs.{run, every}
-use Rattle.words.proofs.RunLaws.{run_more, every_more, every_same}
-use Rattle.model.specs.Lists.{all, those}
-use Rattle.model.specs.Modifiers.{bits, asks_bit, is_testable}
-use Rattle.model.specs.Canonical.{joined_by, each, bit_texts, names_texts, list_text, bit_text, is_written_bit, asks_every}
+use borrow.Author.Tests.{lt-ltb, le-ltb}
+use Rattle.words.specs.Runs.{run}
+use Rattle.words.proofs.RunLaws.{run_more}
+use Rattle.model.specs.Lists.{those}
+use Rattle.model.specs.Canonical.{joined_by, each, bit_texts, names_texts, list_text, bit_text, is_written_bit}
 use Rattle.model.specs.declared.events.KeptEvent.{KeptEvent}
 use Rattle.writing.specs.Overlay.{separator}
-use Rattle.modifier_text.specs.Places.{order_at, is_asked, has_place, place_text}
+use Rattle.modifier_text.specs.Places.{order_at, has_place, place_text}
 use Rattle.name_text.specs.Forms.{has_form, form_text}
 use Rattle.name_text.proofs.Written.{names_written_lem}
-use Rattle.writing.proofs.Joined.{joined_more, those_more, all_every}
+use Rattle.writing.proofs.Joined.{joined_more, each_more, length_each, those_more}
 use Rattle.modifier_text.proofs.Named.{order_run}
-
-length_cond : (b : Bool) (xs : List ℕ) (x : ℕ) → length (xs ++ cond b (x ∷ []) []) ≡ length xs + cond b 1 0
-length_cond true xs x = length-append xs (x ∷ [])
-length_cond false xs x = length-append xs []
-
-joined_cond : (w : ℕ → List ℕ) (b : Bool) (xs : List ℕ) (x : ℕ)
-    → joined_by (32 ∷ []) (each w (xs ++ cond b (x ∷ []) [])) ≡ joined_by (32 ∷ []) (each w xs) ++ cond b (separator 32 (length xs) ++ w x) []
-joined_cond w true xs x = joined_more w 32 xs x
-joined_cond w false xs x = rw (append-nil, append-nil)
 
 module _ (test : ℕ → Bool) (w : ℕ → List ℕ) where
   -- the places before j that have a text
@@ -38,7 +28,7 @@ module _ (test : ℕ → Bool) (w : ℕ → List ℕ) where
   unfoldable pub texts_to : ℕ → List ℕ
   texts_to j = joined_by (32 ∷ []) (each w (written_to j))
 
-  pub texts_none : texts_to 0 ≡ []
+  pub texts_none : [] ≡ texts_to 0
   unfolding texts_to written_to run joined_by
   texts_none = refl
 
@@ -53,27 +43,30 @@ module _ (test : ℕ → Bool) (w : ℕ → List ℕ) where
       ∙ those_more test (run (λ i. i) 0 j) (0 + j)
       ∙ ap (λ (i : ℕ). those test (run (λ i. i) 0 j) ++ cond (test i) (i ∷ []) []) (zero-add j)
 
-  pub count_step : (j n m : ℕ) (is : Bool) → is ≡ test j → n ≡ length (written_to j) → m ≡ n + cond is 1 0
-      → m ≡ length (written_to (j + 1))
-  count_step j n m is b d f =
-      f
-      ∙ ap (λ (i : ℕ). i + cond is 1 0) d
-      ∙ ap (λ (i : Bool). length (written_to j) + cond i 1 0) b
-      ∙ sym (length_cond (test j) (written_to j) j)
-      ∙ ap length (sym (written_more j))
+  module _ (j n : ℕ) (count : n ≡ length (written_to j)) where
+    -- the text of place j is written too
+    module _ (is : test j ≡ true) where
+      one_more : written_to (j + 1) ≡ written_to j ++ (j ∷ [])
+      one_more = written_more j ∙ rw is
 
-  texts_more : (j : ℕ) → texts_to (j + 1) ≡ texts_to j ++ cond (test j) (separator 32 (length (written_to j)) ++ w j) []
-  unfolding texts_to
-  texts_more j =
-      ap (λ (l : List ℕ). joined_by (32 ∷ []) (each w l)) (written_more j)
-      ∙ joined_cond w (test j) (written_to j) j
+      pub count_more : n + 1 ≡ length (written_to (j + 1))
+      count_more = rw (one_more, length-append, count)
 
-  pub texts_step : (j n : ℕ) (is : Bool) → is ≡ test j → n ≡ length (written_to j)
-      → texts_to j ++ cond is (separator 32 n ++ w j) [] ≡ texts_to (j + 1)
-  texts_step j n is b d =
-      ap (λ (i : Bool). texts_to j ++ cond i (separator 32 n ++ w j) []) b
-      ∙ ap (λ (i : ℕ). texts_to j ++ cond (test j) (separator 32 i ++ w j) []) d
-      ∙ sym (texts_more j)
+      pub texts_more : texts_to j ++ (separator 32 n ++ w j) ≡ texts_to (j + 1)
+      unfolding texts_to
+      texts_more = rw (one_more, each_more, joined_more, length_each, count)
+
+    -- it has none
+    module _ (none : test j ≡ false) where
+      no_more : written_to j ≡ written_to (j + 1)
+      no_more = sym (written_more j ∙ rw (none, append-nil))
+
+      pub count_same : n ≡ length (written_to (j + 1))
+      count_same = count ∙ ap length no_more
+
+      pub texts_same : texts_to j ≡ texts_to (j + 1)
+      unfolding texts_to
+      texts_same = ap (λ (l : List ℕ). joined_by (32 ∷ []) (each w l)) no_more
 
 -- ---- All places: bits, then names
 
@@ -146,49 +139,3 @@ module _ (e : KeptEvent) where
       (ap (λ (l : List ℕ). each (place_text e) (those (has_place e) l)) all_places
       ∙ each_append (has_place e) (place_text e) (run (λ i. i) 0 13) (run (λ i. i) 13 16)
       ∙ ap₂ ◌++◌ bit_places name_places)
-
--- ---- `!`
-
-pub every_none : (test : ℕ → Bool) → true ≡ every test 0 0
-unfolding every
-every_none test = refl
-
-pub every_step : (test : ℕ → Bool) (k : ℕ) (ok a : Bool) → ok ≡ every test 0 k → a ≡ test k → (ok && a) ≡ every test 0 (k + 1)
-every_step test k ok a p q =
-    ap (λ (b : Bool). b && a) p
-    ∙ ap (λ (b : Bool). every test 0 k && b) (q ∙ ap test (sym (zero-add k)))
-    ∙ sym (every_more test 0 k)
-
-bits_run : run (λ i. i) 0 13 ≡ bits
-unfolding run
-bits_run = refl
-
-twice : (b : Bool) → b ≡ not (not b)
-twice true = refl
-twice false = refl
-
-asked_same : (e : KeptEvent) (k : ℕ) → is_asked e.set e.clear e.colon k ≡ (not (is_testable e k) || asks_bit e k)
-unfolding is_asked
-asked_same e k = ap (λ (b : Bool). b || asks_bit e k) (twice (e.colon && ltb k 2))
-
-abbrev needed : KeptEvent → ℕ → Bool
-needed e k = not (is_testable e k) || asks_bit e k
-
-pub bang_inside : (e : KeptEvent) → 2 ≤ e.code → e.code ≤ 8 → every (is_asked e.set e.clear e.colon) 0 13 ≡ asks_every e
-unfolding asks_every
-bang_inside e h k =
-    every_same (is_asked e.set e.clear e.colon) (needed e) 0 13 (λ i q. asked_same e (0 + i))
-    ∙ sym (all_every (needed e) 13)
-    ∙ ap (all (needed e)) bits_run
-    ∙ ap (λ (b : Bool). b && all (needed e) bits) (sym within)
-  where
-    within : (leb 2 e.code && leb e.code 8) ≡ true
-    within = rw (le-leb 2 e.code h, le-leb e.code 8 k)
-
-pub bang_low : (e : KeptEvent) → e.code < 2 → false ≡ asks_every e
-unfolding asks_every
-bang_low e h = rw (lt-leb 2 e.code h)
-
-pub bang_high : (e : KeptEvent) → 8 < e.code → false ≡ asks_every e
-unfolding asks_every
-bang_high e h = rw (lt-leb e.code 8 h, and-false)

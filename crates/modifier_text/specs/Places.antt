@@ -1,6 +1,5 @@
 -- The order of writing, and the texts of a list by their place.
-use Rattle.std.specs.Prelude.{ℕ, ◌-◌, Bool, cond, not, ◌&&◌, ◌||◌, List, eqb, ltb}
-use Rattle.model.specs.Modifiers.{bit}
+use Rattle.std.specs.Prelude.{ℕ, ◌-◌, Bool, cond, not, ◌&&◌, List, eqb, ltb}
 use Rattle.model.specs.Named.{kept_as_written}
 use Rattle.model.specs.Canonical.{writes_bang, bit_text, is_written_bit}
 use Rattle.model.specs.declared.events.KeptEvent.{KeptEvent}
@@ -9,10 +8,6 @@ use Rattle.name_text.specs.Forms.{has_form, form_text}
 -- the j-th bit in the order of writing
 unfoldable pub order_at : ℕ → ℕ
 order_at j = cond (eqb j 0) 2 (cond (ltb j 3) (j - 1) j)
-
--- a bit is asked set or clear, or is not testable
-unfoldable pub is_asked : (set clear : ℕ) → Bool → ℕ → Bool
-is_asked set clear colon k = (colon && ltb k 2) || (bit k set || bit k clear)
 
 -- `!` stands for the clear bits, so that only set ones are listed
 unfoldable pub is_brief : KeptEvent → Bool

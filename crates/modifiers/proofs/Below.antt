@@ -1,40 +1,27 @@
 -- Tests at the numbers below a limit: that all pass, that some passes. Lists of bits are such tests.
 use Prim.Native.Nat.{ℕ, zero, suc, ◌+◌, ◌<◌, zero-le, suc-le-suc}
 use native.Mathlib.Omega.{arith}
-use mathlib.Core.Path.{◌≡◌, refl, sym, ap₂, ◌∙◌}
-use mathlib.Core.Bool.{Bool, true, false, not, ◌&&◌, ◌||◌, false≢true, true≢false}
+use Rattle.std.proofs.lemmas.Bool.{or_parts}
+use mathlib.Core.Path.{◌≡◌, refl, ap₂, ◌∙◌}
+use mathlib.Core.Bool.{Bool, true, false, not, ◌&&◌, ◌||◌}
 use Rattle.model.specs.Lists.{any, all}
 use Rattle.model.specs.Modifiers.{bits, button_bits}
 
 -- ---- Bool
 
 pub both_left : (a b : Bool) → a && b ≡ true → a ≡ true
-both_left true b e = refl
-both_left false b e = e
+both_left a b e = grind arith
 
 pub both_right : (a b : Bool) → a && b ≡ true → b ≡ true
-both_right true b e = e
-both_right false b e = absurd (false≢true e)
-
-either_left : (a b : Bool) → a || b ≡ false → a ≡ false
-either_left true b e = e
-either_left false b e = refl
-
-either_right : (a b : Bool) → a || b ≡ false → b ≡ false
-either_right true b e = absurd (true≢false e)
-either_right false b e = e
+both_right a b e = grind arith
 
 -- two tests that pass together are equal
 pub together : (a b : Bool) → (a ≡ true → b ≡ true) → (b ≡ true → a ≡ true) → a ≡ b
-together true b f g = sym (f refl)
-together false true f g = g refl
-together false false f g = refl
+together a b f g = grind arith
 
 -- so are two that fail together
 pub apart : (a b : Bool) → (a ≡ false → b ≡ false) → (b ≡ false → a ≡ false) → a ≡ b
-apart false b f g = sym (f refl)
-apart true true f g = refl
-apart true false f g = g refl
+apart a b f g = grind arith
 
 -- ---- Below a limit
 
@@ -62,9 +49,9 @@ every_from (suc n) t f =
 pub none_at_lem : (n : ℕ) (t : ℕ → Bool) → some n t ≡ false → (k : ℕ) → k < n → t k ≡ false
 unfolding some
 none_at_lem zero t e k h = absurd (omega arith)
-none_at_lem (suc n) t e zero h = either_left (t 0) (some n (λ j. t (suc j))) e
+none_at_lem (suc n) t e zero h = (or_parts (t 0) (some n (λ j. t (suc j))) e).0
 none_at_lem (suc n) t e (suc k) h =
-    none_at_lem n (λ j. t (suc j)) (either_right (t 0) (some n (λ j. t (suc j))) e) k (omega arith)
+    none_at_lem n (λ j. t (suc j)) (or_parts (t 0) (some n (λ j. t (suc j))) e).1 k (omega arith)
 
 pub none_from : (n : ℕ) (t : ℕ → Bool) → ((k : ℕ) → k < n → t k ≡ false) → some n t ≡ false
 unfolding some
@@ -73,12 +60,10 @@ none_from (suc n) t f =
     ap₂ ◌||◌ (f 0 (suc-le-suc zero-le)) (none_from n (λ j. t (suc j)) (λ k h. f (suc k) (suc-le-suc h)))
 
 not_either : (a b : Bool) → not a && not b ≡ not (a || b)
-not_either true b = refl
-not_either false b = refl
+not_either a b = grind arith
 
 not_both : (a b : Bool) → not a || not b ≡ not (a && b)
-not_both true b = refl
-not_both false b = refl
+not_both a b = grind arith
 
 -- all fail where none passes
 pub every_not : (n : ℕ) (t u : ℕ → Bool) → ((k : ℕ) → k < n → u k ≡ not (t k)) → every n u ≡ not (some n t)

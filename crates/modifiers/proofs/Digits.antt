@@ -3,6 +3,7 @@ use Prim.Native.Nat.{ℕ, zero, suc, ◌+◌, ◌/◌, ◌%◌, ◌^◌, ◌<◌
 use native.Mathlib.Omega.{arith}
 use native.Mathlib.Nat.{pow-suc}
 use native.Mathlib.Numerals.{one-add}
+use Rattle.std.proofs.lemmas.Bool.Decides.{nat_tests}
 use mathlib.Core.Path.{◌≡◌, refl, sym, ap, ◌∙◌}
 use mathlib.Core.Bool.{Bool, false, cond, ◌&&◌, ◌||◌}
 use lib.Dec.{eqb, eqb-zero-suc, eqb-suc-zero, eqb-suc-suc}
@@ -25,24 +26,11 @@ bit_suc k m = ap (λ (x : ℕ). eqb (x % 2) 1) (sym (shr-shr m 1 k ∙ ap (λ (j
 pub bit_past : (k j m : ℕ) → bit (k + j) m ≡ bit j (m / 2 ^ k)
 bit_past k j m = ap (λ (x : ℕ). eqb (x % 2) 1) (sym (shr-shr m k j))
 
-digit_cases : (P : ℕ → Type 0) → P 0 → P 1 → (m : ℕ) → m < 2 → P m
-digit_cases P p q zero h = p
-digit_cases P p q (suc zero) h = q
-digit_cases P p q (suc (suc m)) h = absurd (omega arith)
-
 and_digits : (x y : ℕ) → x < 2 → y < 2 → eqb (min x y) 1 ≡ eqb x 1 && eqb y 1
-and_digits x y hx hy =
-    digit_cases (λ (a : ℕ). eqb (min a y) 1 ≡ eqb a 1 && eqb y 1)
-    (digit_cases (λ (b : ℕ). eqb (min 0 b) 1 ≡ eqb 0 1 && eqb b 1) refl refl y hy)
-    (digit_cases (λ (b : ℕ). eqb (min 1 b) 1 ≡ eqb 1 1 && eqb b 1) refl refl y hy)
-    x hx
+and_digits x y hx hy = grind (arith, nat_tests)
 
 or_digits : (x y : ℕ) → x < 2 → y < 2 → eqb (max x y) 1 ≡ eqb x 1 || eqb y 1
-or_digits x y hx hy =
-    digit_cases (λ (a : ℕ). eqb (max a y) 1 ≡ eqb a 1 || eqb y 1)
-    (digit_cases (λ (b : ℕ). eqb (max 0 b) 1 ≡ eqb 0 1 || eqb b 1) refl refl y hy)
-    (digit_cases (λ (b : ℕ). eqb (max 1 b) 1 ≡ eqb 1 1 || eqb b 1) refl refl y hy)
-    x hx
+or_digits x y hx hy = grind (arith, nat_tests)
 
 and_odd : (a b : ℕ) → eqb (bit_and a b % 2) 1 ≡ eqb (a % 2) 1 && eqb (b % 2) 1
 and_odd a b =

@@ -1,8 +1,8 @@
 -- `no_state_meets` is exact. The state that has every bit that is not asked clear meets the test if any state does.
 use Prim.Native.Nat.{ℕ, ◌+◌, ◌<◌}
 use native.Mathlib.Omega.{arith}
-use mathlib.Core.Path.{◌≡◌, refl, sym, ap, ap₂, ◌∙◌}
-use mathlib.Core.Bool.{Bool, true, false, not, ◌&&◌, ◌||◌, false≢true}
+use mathlib.Core.Path.{◌≡◌, sym, ap, ap₂, ◌∙◌}
+use mathlib.Core.Bool.{Bool, true, false, not, ◌&&◌, ◌||◌}
 use borrow.Author.Tests.{not-false}
 use Rattle.model.specs.Lists.{any, all}
 use Rattle.model.specs.Modifiers.{bit, bits, button_bits, mask, as_asked, bits_met, clause_met, state_meets, no_state_meets}
@@ -14,27 +14,15 @@ use Rattle.modifiers.proofs.Below.{every, some, every_at, none_from, every_not, 
 
 -- no bit is asked both ways
 asked_one : (set clear is : Bool) → as_asked set clear is ≡ true → set && clear ≡ false
-asked_one true true true e = sym e
-asked_one true true false e = sym e
-asked_one true false is e = refl
-asked_one false clear is e = refl
+asked_one set clear is e = grind arith
 
 -- a bit asked clear is not set
 clear_off : (set clear is : Bool) → as_asked set clear is ≡ true → clear ≡ true → is ≡ false
-clear_off true true true e q = sym e
-clear_off true true false e q = refl
-clear_off true false is e q = absurd (false≢true q)
-clear_off false true true e q = sym e
-clear_off false true false e q = refl
-clear_off false false is e q = absurd (false≢true q)
+clear_off set clear is e q = grind arith
 
 -- a kept clause wants a button, so not all are asked clear
 clause_kept : (clause some all : Bool) → not clause || some ≡ true → (all ≡ true → some ≡ false) → clause && all ≡ false
-clause_kept true true true e f = f refl
-clause_kept true true false e f = refl
-clause_kept true false true e f = sym e
-clause_kept true false false e f = refl
-clause_kept false some all e f = refl
+clause_kept clause some all e f = grind arith
 
 module _ (set clear : ℕ) (clause : Bool) (state : ℕ) (e : state_meets set clear clause state ≡ true) where
   asked : ℕ → Bool
@@ -82,18 +70,10 @@ unfolding others
 others_bit clear k h = bit_mask (λ j. not (bit j clear)) k h
 
 asked_others : (set clear is : Bool) → is ≡ not clear → as_asked set clear is ≡ not (set && clear)
-asked_others set clear is e = rw e (each set clear)
-  where
-    each : (s c : Bool) → as_asked s c (not c) ≡ not (s && c)
-    each true true = refl
-    each true false = refl
-    each false true = refl
-    each false false = refl
+asked_others set clear is e = grind arith
 
 not_either : (a c b : Bool) → not a && (not c || not b) ≡ not (a || c && b)
-not_either true c b = refl
-not_either false true b = refl
-not_either false false b = refl
+not_either a c b = grind arith
 
 others_meet : (set clear : ℕ) (clause : Bool) → state_meets set clear clause (others clear) ≡ not (no_state_meets set clear clause)
 unfolding state_meets no_state_meets
@@ -113,8 +93,7 @@ others_meet set clear clause =
 -- ---- The theorem
 
 not_possible : (b : Bool) (n : Bool) → n ≡ true → (b ≡ true → n ≡ false) → b ≡ false
-not_possible true n p f = absurd (false≢true (sym (f refl) ∙ p))
-not_possible false n p f = refl
+not_possible b n p f = grind arith
 
 pub exact : ImpossibleExact
 unfolding others

@@ -3,8 +3,9 @@
 use Prim.Native.Nat.{ℕ, zero, suc, ◌+◌, ◌-◌, ◌*◌, ◌/◌, ◌%◌, ◌^◌, ◌<◌, zero-le, suc-le-suc}
 use native.Mathlib.Omega.{arith}
 use native.Mathlib.Nat.{pow-suc}
+use Rattle.std.proofs.lemmas.Bool.Decides.{nat_tests}
 use mathlib.Core.Path.{◌≡◌, refl, sym, ap, ap₂, ◌∙◌}
-use mathlib.Core.Bool.{Bool, true, false, not, ◌&&◌, ◌||◌}
+use mathlib.Core.Bool.{Bool, false, not, ◌&&◌, ◌||◌}
 use lib.Dec.{eqb}
 use lib.Bits.{bit_and, bit_or, and_lt, or_lt}
 use Rattle.model.specs.Modifiers.{bit, bit_if, mask}
@@ -16,29 +17,20 @@ number zero f = 0
 number (suc n) f = digit (f 0) + 2 * number n (λ k. f (suc k))
 
 digit_scaled : (b : Bool) (k : ℕ) → bit_if b k ≡ digit b * 2 ^ k
-digit_scaled true k = omega arith
-digit_scaled false k = omega arith
+digit_scaled b k = grind arith
 
-digit_below : (b : Bool) → digit b < 2
-digit_below true = omega arith
-digit_below false = omega arith
+pub digit_below : (b : Bool) → digit b < 2
+digit_below b = grind arith
 
 digit_not : (b : Bool) → digit (not b) + digit b ≡ 1
-digit_not true = refl
-digit_not false = refl
+digit_not b = grind arith
 
-digit_tested : (b : Bool) → eqb (digit b) 1 ≡ b
-digit_tested true = refl
-digit_tested false = refl
+pub digit_tested : (b : Bool) → eqb (digit b) 1 ≡ b
+digit_tested b = grind arith
 
 -- the digit that stands for a number's lowest bit
-digit_odd : (m : ℕ) → digit (eqb (m % 2) 1) ≡ m % 2
-digit_odd m = go (m % 2) (omega arith)
-  where
-    go : (d : ℕ) → d < 2 → digit (eqb d 1) ≡ d
-    go zero h = refl
-    go (suc zero) h = refl
-    go (suc (suc d)) h = absurd (omega arith)
+pub digit_odd : (m : ℕ) → digit (eqb (m % 2) 1) ≡ m % 2
+digit_odd m = grind (arith, nat_tests)
 
 pub mask_number : (f : ℕ → Bool) → mask f ≡ number 13 f
 unfolding mask number

@@ -15,30 +15,13 @@ use Rattle.modifiers.proofs.Below.{every, some, every_at, every_from, none_at_le
 -- ---- Bits asked set and asked clear
 
 asked_set : (set clear is : Bool) → as_asked set clear is ≡ true → is && set ≡ set
-asked_set true clear true e = refl
-asked_set true clear false e = e
-asked_set false clear true e = refl
-asked_set false clear false e = refl
+asked_set set clear is e = grind arith
 
 asked_clear : (set clear is : Bool) → as_asked set clear is ≡ true → is && clear ≡ false
-asked_clear true true true e = sym e
-asked_clear true true false e = refl
-asked_clear true false true e = refl
-asked_clear true false false e = refl
-asked_clear false true true e = sym e
-asked_clear false true false e = refl
-asked_clear false false true e = refl
-asked_clear false false false e = refl
+asked_clear set clear is e = grind arith
 
 as_asked_lem : (set clear is : Bool) → is && set ≡ set → is && clear ≡ false → as_asked set clear is ≡ true
-as_asked_lem true true true p q = sym q
-as_asked_lem true true false p q = p
-as_asked_lem true false true p q = refl
-as_asked_lem true false false p q = p
-as_asked_lem false true true p q = sym q
-as_asked_lem false true false p q = refl
-as_asked_lem false false true p q = refl
-as_asked_lem false false false p q = refl
+as_asked_lem set clear is p q = grind arith
 
 module _ (set clear state : ℕ) (hs : set < 8192) (hc : clear < 8192) where
   asked : ℕ → Bool

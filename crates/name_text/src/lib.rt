@@ -1,6 +1,6 @@
 // Names of an event as they are written: Meta, Alt, Hyper, Super and its four keysyms, each in two forms, as it is and with `~`.
 // The forms have numbers: 0..7 are those of Meta to Super, 8..15 those of the keysyms, and the odd ones have `~`.
-#![tactic(auto)]
+#![tactic(auto, unfolding(crate::specs::Forms::keysym_at, crate::specs::Forms::form_tilde, crate::specs::Forms::has_form, crate::specs::Forms::form_word))]
 
 ghost use Rattle.std.specs.Prelude.{◌≡◌, ◌++◌, ◌+◌, ◌≤◌, ◌<◌};
 ghost use Rattle.model.specs.Lists.{bytes};
@@ -15,35 +15,26 @@ use writing::{bytes, numbers};
 fn keysym_at(keysyms: Keysyms, i: u32) -> u32
     ensures { result ≡ keysym_at keysyms i }
 {
-    if i == 0 {
-        return keysyms.first;
+    match i {
+        0 => keysyms.first,
+        1 => keysyms.second,
+        2 => keysyms.third,
+        _ => keysyms.fourth,
     }
-    if i == 1 {
-        return keysyms.second;
-    }
-    if i == 2 {
-        return keysyms.third;
-    }
-    keysyms.fourth
 }
 
 fn is_listed(tilde: bool, s: u32) -> bool
     ensures { result ≡ is_listed tilde s }
 {
-    if tilde {
-        return s / 0x40000000 % 2 == 1;
-    }
-    s / 0x20000000 % 2 == 1
+    let mark = if tilde { 0x40000000 } else { 0x20000000 };
+    s / mark % 2 == 1
 }
 
 fn form_bit(tilde: bool, n: u32) -> u32
     requires { n < 4 }
     ensures { (result ≡ form_bit tilde n) × (result < 16) }
 {
-    if tilde {
-        return n + 4;
-    }
-    n
+    if tilde { n + 4 } else { n }
 }
 
 fn form_tilde(j: u32) -> bool
@@ -59,11 +50,10 @@ pub fn has_form(e: KeptEvent, j: u32) -> bool
 {
     let tilde = form_tilde(j);
     if j < 8 {
-        let names = e.names;
-        return modifiers::bit(form_bit(tilde, j / 2), names as u16);
+        modifiers::bit(form_bit(tilde, j / 2), u16::from(e.names))
+    } else {
+        is_listed(tilde, keysym_at(e.keysyms, j / 2 - 4))
     }
-    let keysyms = e.keysyms;
-    is_listed(tilde, keysym_at(keysyms, j / 2 - 4))
 }
 
 fn put_keysym(out: &mut [u8], at: usize, s: u32) -> usize
@@ -80,10 +70,10 @@ fn put_word(out: &mut [u8], at: usize, e: KeptEvent, j: u32) -> usize
     ensures { (Put out.old out.new at result (form_word e j)) × (result ≤ at + 11) }
 {
     if j < 8 {
-        return bytes::put_name(out, at, names::places::long_place(j / 2));
+        bytes::put_name(out, at, names::places::long_place(j / 2))
+    } else {
+        put_keysym(out, at, keysym_at(e.keysyms, j / 2 - 4))
     }
-    let keysyms = e.keysyms;
-    put_keysym(out, at, keysym_at(keysyms, j / 2 - 4))
 }
 
 pub fn put_form(out: &mut [u8], at: usize, e: KeptEvent, j: u32) -> usize

@@ -1,7 +1,6 @@
 -- The table of names as the code holds it, computed from the entries of the rules: at each place a name and what it stands for.
-use Rattle.std.specs.Prelude.{ℕ, ◌+◌, ◌-◌, ◌*◌, ◌<◌, cond, List, [], ◌∷◌, ◌++◌, map, eqb, ltb, length, take, drop, get_or}
+use Rattle.std.specs.Prelude.{ℕ, ◌+◌, ◌-◌, ◌*◌, ◌<◌, cond, List, [], ◌∷◌, ◌++◌, map, eqb, ltb, length, take, drop, get_or, Option, Some}
 use Prim.Native.String.{String}
-use Rattle.std.proofs.Math.Option.{Option, some}
 use Rattle.model.specs.Lists.{bytes}
 use Rattle.model.specs.Names.{Entry}
 use Rattle.model.specs.Details.{keysym_entries, button_entries, motion_entries, mode_entries, request_entries}
@@ -26,7 +25,7 @@ module _ {A : Type 0} where
 -- ---- Names
 
 abbrev pub directive : String → Directive → Entry (Option Directive)
-directive n d = record { name = n; meaning = some d }
+directive n d = record { name = n; meaning = Some d }
 
 -- the directives, in the order of their rule
 unfoldable pub directive_entries : List (Entry (Option Directive))

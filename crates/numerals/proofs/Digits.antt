@@ -5,7 +5,7 @@ use native.Mathlib.Omega.{arith}
 use mathlib.Core.Path.{◌≡◌, refl}
 use mathlib.Core.Bool.{Bool, true, false, ◌&&◌, and-false}
 use mathlib.Core.List.{List, [], ◌∷◌}
-use mathlib.Core.Option.{none, some}
+use Rattle.std.specs.Prelude.{None, Some}
 use lib.Dec.{leb, ltb, eqb}
 use lib.ListN.{length, drop, get_or, drop_of_length-le}
 use borrow.Author.Tests.{leb-true, lt-ltb, le-ltb}
@@ -49,11 +49,11 @@ module _ (base limit : ℕ) where
     unfolding digits_from
     digits_more h d = rw (drop_at w i h, digits_from, lt-ltb _ _ d)
 
-    pub digits_stop : i < length w → base ≤ digit_value (get_or w i 0) → digits_from base v (drop i w) ≡ none
+    pub digits_stop : i < length w → base ≤ digit_value (get_or w i 0) → digits_from base v (drop i w) ≡ None
     unfolding digits_from
     digits_stop h d = rw (drop_at w i h, digits_from, le-ltb _ _ d)
 
-    pub digits_end : length w ≤ i → digits_from base v (drop i w) ≡ some v
+    pub digits_end : length w ≤ i → digits_from base v (drop i w) ≡ Some v
     unfolding digits_from
     digits_end h = rw (drop_of_length-le w h, digits_from)
 

@@ -2,7 +2,7 @@
 use Prim.Native.Nat.{ℕ, zero, suc}
 use native.Mathlib.Omega.{arith}
 use mathlib.Core.Path.{◌≡◌, refl, sym, ap, ◌∙◌}
-use mathlib.Core.Option.{Option, none, some}
+use Rattle.std.specs.Prelude.{Option, None, Some}
 use mathlib.Core.List.{List, [], ◌∷◌, ◌++◌, map, append_assoc}
 use lib.ListN.{length, length-append}
 use lib.Seq.{append_snoc}
@@ -25,7 +25,7 @@ module _ (text : List ℕ) where
   -- the production q is that of the line at place n of some, which stands in the text
   record LineOf (ds : List Derived) (n : ℕ) (q : Tables.Production) : Type 0 where
     line : Derived
-    number : at ds n ≡ some line
+    number : at ds n ≡ Some line
     bytes : List ℕ
     before : List ℕ
     after : List ℕ
@@ -36,10 +36,10 @@ module _ (text : List ℕ) where
 
   -- the text ends with these bytes
   abbrev Ending : Option (List ℕ) → Type 0
-  Ending none = Unit
-  Ending (some l) = (b : List ℕ) × (text ≡ b ++ l)
+  Ending None = Unit
+  Ending (Some l) = (b : List ℕ) × (text ≡ b ++ l)
 
-  next_line : {l w : List ℕ} {r : Option (List ℕ)} → Ending (some l) → Line l w r → Ending r
+  next_line : {l w : List ℕ} {r : Option (List ℕ)} → Ending (Some l) → Line l w r → Ending r
   next_line z (Line.last run) = tt
   next_line {l} {w} z (Line.newline {r = r} run) = (
     z.0 ++ (w ++ (10 ∷ [])),
@@ -52,7 +52,7 @@ module _ (text : List ℕ) where
   behind (Line.newline {r = r} run) = (10 ∷ r, run.split)
 
   line_first : {l w : List ℕ} {r : Option (List ℕ)} {es : List WrittenEvent} {cs : List WrittenCall} {ds : List Derived} {ks : List KeptEvent}
-      (q : Tables.Production) → Ending (some l) → Line l w r → DerivesProduction w es cs → production_of (start_in_text text l) ks cs ≡ q
+      (q : Tables.Production) → Ending (Some l) → Line l w r → DerivesProduction w es cs → production_of (start_in_text text l) ks cs ≡ q
       → LineOf (record { start = start_in_text text l; events = es; calls = cs } ∷ ds) zero q
   line_first {l} {w} {r} {es} {cs} {ds} {ks} q z c d e =
       let b = behind c in
@@ -83,14 +83,14 @@ module _ (text : List ℕ) where
       }
 
   lines_line : {s u : Option (List ℕ)} {ds : List Derived} {ps : List Tables.Production} → Ending s → Lines text s ds u → ProductionsKept ds ps
-      → (n : ℕ) (q : Tables.Production) → at ps n ≡ some q → LineOf ds n q
+      → (n : ℕ) (q : Tables.Production) → at ps n ≡ Some q → LineOf ds n q
   lines_line z Lines.done ProductionsKept.nothing n q e = absurd (none_some e)
   lines_line z (Lines.blanks c b ls) k n q e = lines_line (next_line z c) ls k n q e
   lines_line z (Lines.production c d ls) (ProductionsKept.more k ks) zero q e = line_first q z c d (same_some e)
   lines_line z (Lines.production c d ls) (ProductionsKept.more k ks) (suc n) q e = line_later (lines_line (next_line z c) ls ks n q e)
 
   table_line : {d : Model.Directive} {u : Option (List ℕ)} {ds : List Derived} {ps : List Tables.Production} → TranslationTable text d ds u
-      → ProductionsKept ds ps → (n : ℕ) (q : Tables.Production) → at ps n ≡ some q → LineOf ds n q
+      → ProductionsKept ds ps → (n : ℕ) (q : Tables.Production) → at ps n ≡ Some q → LineOf ds n q
   table_line (TranslationTable.plain ls) k n q e = lines_line ([], refl) ls k n q e
   table_line (TranslationTable.directed c x ls) k n q e = lines_line (next_line ([], refl) c) ls k n q e
 
@@ -105,7 +105,7 @@ module _ (text : List ℕ) where
   pub accepts : (t : Tables.Table) → compiled text ≡ accepted t → Accepts text t
   accepts t e = (exact.accepts text t).0 e
 
-  pub written : (t : Tables.Table) → compiled text ≡ accepted t → (n : ℕ) (q : Tables.Production) → at t.productions n ≡ some q → Written n q
+  pub written : (t : Tables.Table) → compiled text ≡ accepted t → (n : ℕ) (q : Tables.Production) → at t.productions n ≡ Some q → Written n q
   written t e n q f =
       let a : Accepts text t = accepts t e in
       let x : LineOf a.derived.derived n q = table_line a.derived.table a.derived.kept n q (rw a.table at f) in

@@ -3,7 +3,7 @@ use Prim.Native.Nat.{ℕ, ◌+◌, ◌≤◌, ◌<◌}
 use native.Mathlib.Omega.{arith}
 use mathlib.Core.Path.{◌≡◌, refl, ap, ◌∙◌}
 use mathlib.Core.Bool.{Bool, true, false}
-use mathlib.Core.Option.{Option, none, some}
+use Rattle.std.specs.Prelude.{Option, None, Some}
 use mathlib.Core.List.{List, ◌++◌, map, append_assoc}
 use lib.ListN.{length, take, drop, length-append, length-map}
 use Rattle.model.specs.Calls.{WrittenCall}
@@ -58,7 +58,7 @@ more_after true first second more_first more_second = refl
 more_after false first second more_first more_second = refl
 
 module _ (t : Table) (table first second : List ℕ) (reads : ReadsTable t table first second) (p : ℕ) where
-  module _ (q : Production) (e : at t.productions p ≡ some q) (m : Bool) (line : Derived) (c : q.calls ≡ calls_of_line m line) where
+  module _ (q : Production) (e : at t.productions p ≡ Some q) (m : Bool) (line : Derived) (c : q.calls ≡ calls_of_line m line) where
     there : (k : ℕ) → asked_call t p k ≡ at (calls_of_line m line) k
     unfolding asked_call asked_production
     there k = ap (λ (o : Option Production). call_in o k) e ∙ ap (λ (cs : List Call). at cs k) c
@@ -84,8 +84,8 @@ module _ (t : Table) (table first second : List ℕ) (reads : ReadsTable t table
           part_by first second m (in_text line.start s)
           ∙ part_there (text_of_mark m first second) h.before h.bytes (h.after ++ more) line.start s lent_split h.start w
 
-      call_there_lem : (k : ℕ) (call : WrittenCall) → at line.calls k ≡ some call
-          → at (calls_of_line m line) k ≡ some (record { second = m; name = in_text line.start call.name; parameters = map (in_text line.start) call.parameters })
+      call_there_lem : (k : ℕ) (call : WrittenCall) → at line.calls k ≡ Some call
+          → at (calls_of_line m line) k ≡ Some (record { second = m; name = in_text line.start call.name; parameters = map (in_text line.start) call.parameters })
       call_there_lem k call f = at_map _ line.calls k call f
 
       reads_bytes : ReadsBytes table first second p line h.bytes
@@ -102,8 +102,8 @@ module _ (t : Table) (table first second : List ℕ) (reads : ReadsTable t table
 
   -- ---- No production
 
-  module _ (e : at t.productions p ≡ none) where
-    no_call : (k : ℕ) → asked_call t p k ≡ none
+  module _ (e : at t.productions p ≡ None) where
+    no_call : (k : ℕ) → asked_call t p k ≡ None
     unfolding asked_call asked_production
     no_call k = ap (λ (o : Option Production). call_in o k) e
 

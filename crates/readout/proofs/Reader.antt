@@ -3,7 +3,7 @@ use Prim.Native.Nat.{ℕ, ◌≤◌}
 use mathlib.Core.Path.{◌≡◌, refl, sym, ◌∙◌}
 use mathlib.Core.List.{List, ◌++◌}
 use mathlib.Core.Bool.{Bool, true, false}
-use mathlib.Core.Option.{Option, none, some}
+use Rattle.std.specs.Prelude.{Option, None, Some}
 use lib.Dec.{ltb}
 use lib.ListN.{length}
 use borrow.Author.Tests.{le-ltb}
@@ -30,24 +30,24 @@ pub record ReadsTable (t : Table) (table first second : List ℕ) : Type 0 where
 -- ---- What a table says is a count, a place or 16
 
 settled_calls : (o : Option Production) → settled_count (calls_asked o) ≡ calls_asked o
-settled_calls none = refl
-settled_calls (some p) = refl
+settled_calls None = refl
+settled_calls (Some p) = refl
 
 settled_parameters : (o : Option Call) → settled_count (parameters_asked o) ≡ parameters_asked o
-settled_parameters none = refl
-settled_parameters (some c) = refl
+settled_parameters None = refl
+settled_parameters (Some c) = refl
 
 settled_name : (o : Option Call) → settled_place (name_asked o) ≡ name_asked o
-settled_name none = refl
-settled_name (some c) = settled_located c.second c.name
+settled_name None = refl
+settled_name (Some c) = settled_located c.second c.name
 
 settled_span : (m : Bool) (o : Option Span) → settled_place (span_of m o) ≡ span_of m o
-settled_span m none = refl
-settled_span m (some s) = settled_located m s
+settled_span m None = refl
+settled_span m (Some s) = settled_located m s
 
 settled_parameter : (o : Option Call) (k : ℕ) → settled_place (parameter_of o k) ≡ parameter_of o k
-settled_parameter none k = refl
-settled_parameter (some c) k = settled_span c.second (at c.parameters k)
+settled_parameter None k = refl
+settled_parameter (Some c) k = settled_span c.second (at c.parameters k)
 
 module _ (t : Table) (fit : fitting t ≡ true) (first second rest : List ℕ) (a : t.first_length ≤ length first) (b : t.second_length ≤ length second) where
   long : texts_short t first second ≡ false

@@ -4,7 +4,7 @@ use native.Mathlib.Omega.{arith}
 use mathlib.Core.Path.{◌≡◌, refl, sym, ap, ◌∙◌}
 use mathlib.Core.List.{List, [], ◌∷◌, ◌++◌, map}
 use mathlib.Core.Bool.{false}
-use mathlib.Core.Option.{Option, none, some}
+use Rattle.std.specs.Prelude.{Option, None, Some}
 use lib.ListN.{length, get_or, take, drop}
 use Rattle.model.specs.Tables.{Call, Production, Table}
 use Rattle.model.specs.Asking.{at, asked_production, call_in, asked_call, name_asked, parameters_asked, span_of, parameter_of, parameter_count, located_name, located_parameter}
@@ -43,18 +43,18 @@ abbrev example_of : List ℕ → Call → ReadExample
 example_of text c = record { text = text; name = bytes_in text c.name; parameters = map (bytes_in text) c.parameters }
 
 abbrev of_call : List ℕ → Option Call → Option ReadExample
-of_call text none = none
-of_call text (some c) = some (example_of text c)
+of_call text None = None
+of_call text (Some c) = Some (example_of text c)
 
 abbrev of_outcome : List ℕ → Outcome → Option ReadExample
-of_outcome text (refused n place) = none
+of_outcome text (refused n place) = None
 of_outcome text (accepted t) = of_call text (asked_call t 0 0)
 
 abbrev written : ReadExample → Option ReadExample
 written x = of_outcome x.text (compiled x.text)
 
 -- every text of the table, compiled
-computed : map written read_examples ≡ map (λ (x : ReadExample). some x) read_examples
+computed : map written read_examples ≡ map (λ (x : ReadExample). Some x) read_examples
 unfolding is_allowed first_bad_byte is_blank is_digit is_letter belongs run_end skip line_end line_at is_blank_line directive_of directive_at modifier_entries modifier_named protocol_entries synonym_entries abbreviation_entries type_entries type_named digit_value digits_from number_in keysym_entries keysym_names latin1_entries key_detail button_entries motion_entries mode_entries request_entries small_number name_or_number detail_named keysym_from name_from modifier_name_at modifier_from modifier_at modifiers_from lead_colon lead_from lead_at list_of type_from type_run type_name type_at count_close count_plus count_run count_digits count_from count_at plain_event_at marked_key key_at keys_from key_sequence_at events_from events_at after_event_from after_event_at left_from left_side parameter_end quoted_from unquoted_from parameter_from parameter_at parameters_from parameters_past parameters_at call_name_from call_from call_at calls_from right_side mask lists_set lists_clear asks_set asks_clear set_mask clear_mask keeps_clause state_meets no_state_meets release_press press_release elements_at elements_of expanded sequence detail_of kept_detail is_impossible kept_event event_number judged_written judged production_passes totals_pass passes_limit line_read judged_all line_outcome lines_from lines_of compiled read_examples asked_call asked_production keysyms_from keysyms_of is_crowded
 computed = refl
 
@@ -71,15 +71,15 @@ length_parts text [] = refl
 length_parts text (s ∷ ss) = ap suc (length_parts text ss)
 
 -- a call of the table of a text is marked as the first text's
-first_mark : (text : List ℕ) (t : Table) → compiled text ≡ accepted t → (c : Call) → (o : Option Production) → at t.productions 0 ≡ o → call_in o 0 ≡ some c
+first_mark : (text : List ℕ) (t : Table) → compiled text ≡ accepted t → (c : Call) → (o : Option Production) → at t.productions 0 ≡ o → call_in o 0 ≡ Some c
     → c.second ≡ false
-first_mark text t e c none q f = absurd (none_some f)
-first_mark text t e c (some p) q f =
+first_mark text t e c None q f = absurd (none_some f)
+first_mark text t e c (Some p) q f =
     let w : lines.Written text 0 p = lines.written text t e 0 p q in
     let x = at_mapped (call_of w.line.start) w.line.calls 0 c (rw w.calls at f) in
     ap (λ (y : Call). y.second) x.2
 
-module _ (text : List ℕ) (t : Table) (e : compiled text ≡ accepted t) (c : Call) (asked : asked_call t 0 0 ≡ some c) where
+module _ (text : List ℕ) (t : Table) (e : compiled text ≡ accepted t) (c : Call) (asked : asked_call t 0 0 ≡ Some c) where
   reads : (rest second : List ℕ) → ReadsTable t (encode t ++ rest) text second
   reads rest second = reads_fitting t text second (CameFrom.compiling e) rest text second (omega arith) (omega arith)
 
@@ -117,15 +117,15 @@ heads e = cc
 tails : {x y : Option ReadExample} {xs ys : List (Option ReadExample)} → ◌≡◌ {A = List (Option ReadExample)} (x ∷ xs) (y ∷ ys) → xs ≡ ys
 tails e = cc
 
-shown_call : (x : ReadExample) (t : Table) (o : Option Call) → compiled x.text ≡ accepted t → asked_call t 0 0 ≡ o → of_call x.text o ≡ some x → Shown x t
-shown_call x t none e a q = absurd (none_some q)
-shown_call x t (some c) e a q = rw (same_some q) at (call_shown x.text t e c a)
+shown_call : (x : ReadExample) (t : Table) (o : Option Call) → compiled x.text ≡ accepted t → asked_call t 0 0 ≡ o → of_call x.text o ≡ Some x → Shown x t
+shown_call x t None e a q = absurd (none_some q)
+shown_call x t (Some c) e a q = rw (same_some q) at (call_shown x.text t e c a)
 
-shown_outcome : (x : ReadExample) (o : Outcome) → compiled x.text ≡ o → of_outcome x.text o ≡ some x → (t : Table) × Shown x t
+shown_outcome : (x : ReadExample) (o : Outcome) → compiled x.text ≡ o → of_outcome x.text o ≡ Some x → (t : Table) × Shown x t
 shown_outcome x (refused n place) e q = absurd (none_some q)
 shown_outcome x (accepted t) e q = (t, shown_call x t (asked_call t 0 0) e refl q)
 
-all_shown : (xs : List ReadExample) → map written xs ≡ map (λ (x : ReadExample). some x) xs → AllShown xs
+all_shown : (xs : List ReadExample) → map written xs ≡ map (λ (x : ReadExample). Some x) xs → AllShown xs
 all_shown [] e = tt
 all_shown (x ∷ xs) e = (shown_outcome x (compiled x.text) refl (heads e), all_shown xs (tails e))
 

@@ -2,7 +2,7 @@
 use Prim.Native.Nat.{ℕ}
 use mathlib.Core.Path.{◌≡◌, refl, ap, ◌∙◌}
 use mathlib.Core.Bool.{Bool, true, false, not}
-use mathlib.Core.Option.{some}
+use Rattle.std.specs.Prelude.{Some}
 use mathlib.Core.List.{List, [], ◌∷◌, map}
 use Rattle.model.specs.Lists.{those}
 use Rattle.model.specs.Calls.{WrittenCall}
@@ -28,7 +28,7 @@ pub record Found (first second : List ℕ) (t : Table) (p : ℕ) (q : Production
 
 -- ---- Which of two lists a merge took a production from
 
-merged_either : (d : Directive) (old new : List Production) (p : ℕ) (q : Production) → at (merged_productions d old new) p ≡ some q → Either old new q
+merged_either : (d : Directive) (old new : List Production) (p : ℕ) (q : Production) → at (merged_productions d old new) p ≡ Some q → Either old new q
 unfolding merged_productions without
 merged_either Directive.Replace old new p q e = Either.right (record { place = p; there = e })
 merged_either Directive.Override old new p q e = go (at_append new (those (λ x. not (is_among new x)) old) p q e)
@@ -54,16 +54,16 @@ marked line = mark_calls line.start line.calls
 -- ---- A merged table
 
 module _ (first second : List ℕ) (old new : Table) (a : compiled first ≡ accepted old) (b : compiled second ≡ accepted new) (p : ℕ) (q : Production)
-    (e : at (merged_table old new).productions p ≡ some q) where
+    (e : at (merged_table old new).productions p ≡ Some q) where
   from_old : Among old.productions q → Found first second (merged_table old new) p q
   from_old x =
       let w : Written first x.place q = written first old a x.place q x.there in
       record { mark = false; number = x.place; source = Source.of_old a b x.there e; line = w.line; has = w.has; calls = w.calls }
 
-  from_new : (n : ℕ) (r : Production) → at new.productions n ≡ some r → q ≡ from_second r → Found first second (merged_table old new) p q
+  from_new : (n : ℕ) (r : Production) → at new.productions n ≡ Some r → q ≡ from_second r → Found first second (merged_table old new) p q
   from_new n r x y =
       let w : Written second n r = written second new b n r x in
-      let f : at (merged_table old new).productions p ≡ some (from_second r) = e ∙ ap {B = _} some y in
+      let f : at (merged_table old new).productions p ≡ Some (from_second r) = e ∙ ap {B = _} Some y in
       record {
         mark = true;
         number = n;
@@ -85,7 +85,7 @@ module _ (first second : List ℕ) (old new : Table) (a : compiled first ≡ acc
 
 -- ---- Every table that came from texts
 
-pub found : {t : Table} {first second : List ℕ} → CameFrom t first second → (p : ℕ) (q : Production) → at t.productions p ≡ some q → Found first second t p q
+pub found : {t : Table} {first second : List ℕ} → CameFrom t first second → (p : ℕ) (q : Production) → at t.productions p ≡ Some q → Found first second t p q
 found {t} {first} {second} (CameFrom.compiling c) p q e =
     let w : Written first p q = written first t c p q e in
     record { mark = false; number = p; source = Source.of_text c; line = w.line; has = w.has; calls = w.calls }

@@ -3,7 +3,7 @@ use Prim.Native.Nat.{ℕ, zero, suc, ◌+◌, ◌-◌, ◌≤◌}
 use Prim.Native.Char.{code}
 use native.Mathlib.Omega.{arith}
 use mathlib.Core.Path.{◌≡◌, ap, ◌∙◌}
-use mathlib.Core.Option.{some}
+use Rattle.std.specs.Prelude.{Some}
 use mathlib.Core.List.{List, [], ◌∷◌, ◌++◌}
 use lib.ListN.{length, take, drop, length-append, length-drop}
 use lib.Seq.{drop-append-add, drop-append-le, take-append-le}
@@ -59,26 +59,26 @@ module _ (line : List ℕ) where
   production_within : {es : List WrittenEvent} {cs : List WrittenCall} → DerivesProduction line es cs → CallsWithin cs
   production_within (DerivesProduction.production d s c) = calls_within_lem c
 
-  name_of : (cs : List WrittenCall) (c : ℕ) (call : WrittenCall) → CallsWithin cs → at cs c ≡ some call → Within call.name
+  name_of : (cs : List WrittenCall) (c : ℕ) (call : WrittenCall) → CallsWithin cs → at cs c ≡ Some call → Within call.name
   name_of [] c call w e = absurd (none_some e)
   name_of (x ∷ cs) zero call w e = let q : x ≡ call = same_some e in rw q at w.0
   name_of (x ∷ cs) (suc c) call w e = name_of cs c call w.2 e
 
-  parameters_of : (cs : List WrittenCall) (c : ℕ) (call : WrittenCall) → CallsWithin cs → at cs c ≡ some call → AllWithin call.parameters
+  parameters_of : (cs : List WrittenCall) (c : ℕ) (call : WrittenCall) → CallsWithin cs → at cs c ≡ Some call → AllWithin call.parameters
   parameters_of [] c call w e = absurd (none_some e)
   parameters_of (x ∷ cs) zero call w e = let q : x ≡ call = same_some e in rw q at w.1
   parameters_of (x ∷ cs) (suc c) call w e = parameters_of cs c call w.2 e
 
-  parameter_of_lem : (ss : List Span) (k : ℕ) (s : Span) → AllWithin ss → at ss k ≡ some s → Within s
+  parameter_of_lem : (ss : List Span) (k : ℕ) (s : Span) → AllWithin ss → at ss k ≡ Some s → Within s
   parameter_of_lem [] k s w e = absurd (none_some e)
   parameter_of_lem (x ∷ ss) zero s w e = let q : x ≡ s = same_some e in rw q at w.0
   parameter_of_lem (x ∷ ss) (suc k) s w e = parameter_of_lem ss k s w.1 e
 
-  module _ {es : List WrittenEvent} {cs : List WrittenCall} (d : DerivesProduction line es cs) (c : ℕ) (call : WrittenCall) (e : at cs c ≡ some call) where
+  module _ {es : List WrittenEvent} {cs : List WrittenCall} (d : DerivesProduction line es cs) (c : ℕ) (call : WrittenCall) (e : at cs c ≡ Some call) where
     pub name_in : call.name.start + call.name.len ≤ length line
     name_in = name_of cs c call (production_within d) e
 
-    pub parameter_in : (k : ℕ) (s : Span) → at call.parameters k ≡ some s → s.start + s.len ≤ length line
+    pub parameter_in : (k : ℕ) (s : Span) → at call.parameters k ≡ Some s → s.start + s.len ≤ length line
     parameter_in k s f = parameter_of_lem call.parameters k s (parameters_of cs c call (production_within d) e) f
 
 -- ---- In the text

@@ -4,8 +4,7 @@
 -- In the text `<Key>a:f(ab)` the grammar reads one production, in the line at byte 0, with one call: its name is 1 byte at 7, its
 -- parameter 2 bytes at 9. So of production 0 and call 0 the reader gives the name `f`, one parameter, and as parameter 0 `ab`,
 -- neither `a` nor `b`; parameter 1, call 1 and production 1 are not there.
-use Rattle.std.specs.Prelude.{ℕ, ◌+◌, ◌≤◌, ◌<◌, ◌≡◌, Bool, true, false, List, ◌++◌, map, length}
-use Rattle.std.proofs.Math.Option.{none, some}
+use Rattle.std.specs.Prelude.{ℕ, ◌+◌, ◌≤◌, ◌<◌, ◌≡◌, Bool, true, false, List, ◌++◌, map, length, None, Some}
 use Rattle.model.specs.Numbers.{not_there}
 use Rattle.model.specs.Lists.{part}
 use Rattle.model.specs.Calls.{WrittenCall}
@@ -30,8 +29,8 @@ use Rattle.roundtrip.specs.RoundTrip.{CameFrom}
 pub record TextHas (text : List ℕ) (n : ℕ) (line : Derived) : Type 0 where
   pub directive : Directive
   pub lines : List Derived
-  pub reading : TranslationTable text directive lines none
-  pub number : at lines n ≡ some line
+  pub reading : TranslationTable text directive lines None
+  pub number : at lines n ≡ Some line
   -- the bytes of its line, and where they stand in the text
   pub bytes : List ℕ
   pub before : List ℕ
@@ -63,11 +62,11 @@ pub data Source (first second : List ℕ) : Table → (p : ℕ) → (mark : Bool
   of_text : {t : Table} {p : ℕ} → compiled first ≡ accepted t → Source first second t p false p
   -- a merged one has those of the old table that the rule keeps,
   of_old : {old new : Table} {q : Production} {p n : ℕ} → compiled first ≡ accepted old → compiled second ≡ accepted new
-      → at old.productions n ≡ some q → at (merged_table old new).productions p ≡ some q
+      → at old.productions n ≡ Some q → at (merged_table old new).productions p ≡ Some q
       → Source first second (merged_table old new) p false n
   -- and those of the new
   of_new : {old new : Table} {q : Production} {p n : ℕ} → compiled first ≡ accepted old → compiled second ≡ accepted new
-      → at new.productions n ≡ some q → at (merged_table old new).productions p ≡ some (from_second q)
+      → at new.productions n ≡ Some q → at (merged_table old new).productions p ≡ Some (from_second q)
       → Source first second (merged_table old new) p true n
 
 -- "a part of whichever of the two texts it came from"
@@ -86,9 +85,9 @@ pub record ReadsLine (table first second : List ℕ) (p : ℕ) (mark : Bool) (li
 
 -- "An accepted one gives the name's bytes, or the parameter's without quotes, as a part of the text."
 pub record ReadsBytes (table first second : List ℕ) (p : ℕ) (line : Derived) (bytes : List ℕ) : Type 0 where
-  pub name : (c : ℕ) (call : WrittenCall) → at line.calls c ≡ some call
+  pub name : (c : ℕ) (call : WrittenCall) → at line.calls c ≡ Some call
       → name_part table first second p c ≡ part_of_line bytes call.name
-  pub parameter : (c k : ℕ) (call : WrittenCall) (s : Span) → at line.calls c ≡ some call → at call.parameters k ≡ some s
+  pub parameter : (c k : ℕ) (call : WrittenCall) (s : Span) → at line.calls c ≡ Some call → at call.parameters k ≡ Some s
       → parameter_part table first second p c k ≡ part_of_line bytes s
 
 -- of production p of a table that came from texts: it came from a line of one of them, and the reader gives that line's calls

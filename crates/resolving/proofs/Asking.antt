@@ -1,6 +1,9 @@
 -- Names gathered one at a time come to what the model's `asked` says; an event without names asks its own bits.
 use Prim.Native.Nat.{ℕ, ◌-◌, ◌<◌}
 use borrow.Author.Tests.{eq-eqb, ne_eqb}
+use Rattle.std.specs.List.{fold}
+use Rattle.std.proofs.lemmas.Bool.{or_parts}
+use native.Mathlib.Omega.{arith}
 use mathlib.Core.Path.{◌≡◌, refl, sym, ap, ap₂, ◌∙◌}
 use mathlib.Core.Bool.{Bool, true, false, cond, not, ◌&&◌, ◌||◌, true≢false}
 use mathlib.Core.List.{List, [], ◌∷◌}
@@ -9,9 +12,9 @@ use lib.Bits.{bit_and, bit_or, or_zero_l}
 use Rattle.model.specs.Lists.{any}
 use Rattle.model.specs.Modifiers.{bit, bits, mask, is_shift_or_lock, is_testable, asks_bit}
 use Rattle.model.specs.Setting.{Setting}
-use Rattle.model.specs.Named.{no_keysyms}
-use Rattle.model.specs.Resolving.{ListedName, names_of, holds_keysym, keycode_holds, row_of, has_bit, is_unmet, resolves_set, resolves_clear, resolves}
-use Rattle.model.specs.Asked.{Test, asks_bit_set, asks_bit_clear, is_unlisted, asked}
+use Rattle.model.specs.Named.{no_keysyms, marked_keysym, is_listed}
+use Rattle.model.specs.Resolving.{ListedName, named_keysym, names_of, has_bit, is_unmet, resolves_set, resolves_clear, resolves}
+use Rattle.model.specs.Asked.{asks_bit_set, asks_bit_clear, is_unlisted, asked}
 use Rattle.model.specs.declared.events.Detail.{Detail}
 use Rattle.model.specs.declared.events.Keysyms.{Keysyms}
 use Rattle.model.specs.declared.events.KeptEvent.{KeptEvent}
@@ -21,11 +24,6 @@ use Rattle.modifiers.proofs.Below.{none_at_lem, none_from, any_bits}
 use Rattle.keyboard.specs.Maps.{lent_setting}
 use Rattle.resolving.specs.declared.Resolved.{Resolved}
 use Rattle.resolving.specs.Gathering.{bits_of, gathered, with_bits, testable_mask, other_bits, tested, resolved_test}
-use Rattle.resolving.proofs.Entries.{or_none}
-
-resolved : (a b c d : ℕ) (e f : Bool) → a ≡ b → c ≡ d → e ≡ f
-    → ◌≡◌ {A = Resolved} (record { set = a; clear = c; dead = e }) (record { set = b; clear = d; dead = f })
-resolved a b c d e f p q r = rw (p, q, r)
 
 -- ---- One name
 
@@ -45,44 +43,23 @@ bits_if : (b : Bool) (f : ℕ → Bool) → mask (λ k. b && f k) ≡ cond b (ma
 bits_if true f = refl
 bits_if false f = mask_none
 
-holds_twice : (keyboard : List ℕ) (v c : ℕ) → keycode_holds keyboard (v ∷ v ∷ []) c ≡ keycode_holds keyboard (v ∷ []) c
-unfolding keycode_holds
-holds_twice keyboard v c = ap (λ (b : Bool). not (eqb c 0) && b) (twice (holds_keysym keyboard c v))
-  where
-    twice : (a : Bool) → a || (a || false) ≡ a || false
-    twice true = refl
-    twice false = refl
-
-same_row : (f g : ℕ → Bool) → ((c : ℕ) → f c ≡ g c) → (row : List ℕ) → any f row ≡ any g row
-same_row f g s [] = refl
-same_row f g s (c ∷ cs) = ap₂ ◌||◌ (s c) (same_row f g s cs)
-
 -- a name that is not listed asks nothing
 pub with_none : (so : Resolved) (m : ℕ) (set clear : Bool) → set || clear ≡ false → with_bits so m set clear ≡ so
 unfolding with_bits
-with_none so m true clear e = absurd (true≢false e)
-with_none so m false true e = absurd (true≢false e)
-with_none so m false false e = resolved _ _ _ _ _ _ (or_zero_l so.set) (or_zero_l so.clear) refl
+with_none so m set clear e =
+    let o = or_parts set clear e in
+    rw (o.0, o.1, or_zero_l so.set, or_zero_l so.clear)
 
 module _ (setting : Setting) where
   name_bits : (n : ListedName) → mask (has_bit setting n) ≡ bits_of setting n.keysyms
   unfolding bits_of has_bit
   name_bits n = refl
 
-  -- a keysym twice is that keysym
-  pub bits_twice : (v : ℕ) → bits_of setting (v ∷ v ∷ []) ≡ bits_of setting (v ∷ [])
-  unfolding bits_of
-  bits_twice v =
-      same_mask (λ k. any (keycode_holds setting.keyboard (v ∷ v ∷ [])) (row_of setting.modifiers k))
-      (λ k. any (keycode_holds setting.keyboard (v ∷ [])) (row_of setting.modifiers k))
-      (λ k h. same_row (keycode_holds setting.keyboard (v ∷ v ∷ [])) (keycode_holds setting.keyboard (v ∷ []))
-      (holds_twice setting.keyboard v) (row_of setting.modifiers k))
-
   -- ---- Names
 
   pub gathered_none : record { set = 0; clear = 0; dead = false } ≡ gathered setting []
   unfolding gathered
-  gathered_none = sym (resolved (mask (λ k. false)) 0 (mask (λ k. false)) 0 false false mask_none mask_none refl)
+  gathered_none = rw mask_none
 
   -- a name listed so, and others
   joined : (b : Bool) (n : ListedName) (f : ℕ → Bool)
@@ -101,14 +78,28 @@ module _ (setting : Setting) where
       → with_bits (gathered setting ns) (bits_of setting n.keysyms) n.set n.clear ≡ gathered setting (n ∷ ns)
   unfolding gathered with_bits
   gathered_cons n ns =
-      resolved _ _ _ _ _ _
-      (joined n.set n (λ k. any (λ m. m.set && has_bit setting m k) ns))
-      (joined n.clear n (λ k. any (λ m. m.clear && has_bit setting m k) ns))
-      (ap (λ (b : Bool). b || any (is_unmet setting) ns) (unmet n))
+      rw (
+        joined n.set n (λ k. any (λ m. m.set && has_bit setting m k) ns),
+        joined n.clear n (λ k. any (λ m. m.clear && has_bit setting m k) ns),
+        unmet n,
+      )
 
   pub gathered_more : (n : ListedName) (ns : List ListedName) (so : Resolved) → so ≡ gathered setting ns
       → with_bits so (bits_of setting n.keysyms) n.set n.clear ≡ gathered setting (n ∷ ns)
   gathered_more n ns so e = ap (λ (r : Resolved). with_bits r (bits_of setting n.keysyms) n.set n.clear) e ∙ gathered_cons n ns
+
+  -- a keysym after `@` more
+  abbrev pub with_marked : Resolved → ℕ → Resolved
+  with_marked so s = with_bits so (bits_of setting (marked_keysym s ∷ [])) (is_listed false s) (is_listed true s)
+
+  pub gathered_keysyms : (a b c d : ℕ)
+      → fold with_marked (record { set = 0; clear = 0; dead = false }) (d ∷ c ∷ b ∷ a ∷ [])
+      ≡ gathered setting (named_keysym a ∷ named_keysym b ∷ named_keysym c ∷ named_keysym d ∷ [])
+  gathered_keysyms a b c d =
+      gathered_more (named_keysym a) _ _
+      (gathered_more (named_keysym b) _ _
+      (gathered_more (named_keysym c) _ _
+      (gathered_more (named_keysym d) _ _ gathered_none)))
 
 -- the multi-click time plays no part
 timeless : (maps : List ℕ) (a b : ℕ) (ns : List ListedName) → gathered (lent_setting maps a) ns ≡ gathered (lent_setting maps b) ns
@@ -121,10 +112,6 @@ testable_mask_lem : (colon : Bool) → mask (λ k. not (colon && is_shift_or_loc
 unfolding mask
 testable_mask_lem true = refl
 testable_mask_lem false = refl
-
-neither : (a b : Bool) → not a && not b ≡ not (a || b)
-neither true b = refl
-neither false b = refl
 
 module _ (setting : Setting) (e : KeptEvent) (hs : e.set < 8192) (hc : e.clear < 8192) where
   abbrev listed_bits : ℕ
@@ -150,7 +137,7 @@ module _ (setting : Setting) (e : KeptEvent) (hs : e.set < 8192) (hc : e.clear <
   others_are =
       bits_if e.bang (is_unlisted setting e)
       ∙ ap (λ (m : ℕ). cond e.bang m 0)
-      (same_mask (is_unlisted setting e) (λ k. not (asks_bit e k || resolves setting e k)) (λ k h. neither (asks_bit e k) (resolves setting e k))
+      (same_mask (is_unlisted setting e) (λ k. not (asks_bit e k || resolves setting e k)) (λ k h. grind arith)
       ∙ mask_not (λ k. asks_bit e k || resolves setting e k)
       ∙ ap (λ (m : ℕ). 8191 - m) listed_is)
 
@@ -168,7 +155,7 @@ module _ (setting : Setting) (e : KeptEvent) (hs : e.set < 8192) (hc : e.clear <
 
   tested_names : tested e.set e.clear e.colon e.bang (gathered setting (names_of e)) ≡ resolved_test (asked setting e)
   unfolding tested gathered asked resolves_set resolves_clear
-  tested_names = resolved _ _ _ _ _ _ set_is clear_is refl
+  tested_names = rw (set_is, clear_is)
 
 pub tested_asked : (maps : List ℕ) (e : KeptEvent) (by : Resolved) (limit : ℕ) → e.set < 8192 → e.clear < 8192
     → by ≡ gathered (lent_setting maps 0) (names_of e)
@@ -228,32 +215,13 @@ module _ (setting : Setting) (e : KeptEvent) (hs : e.set < 8192) (hc : e.clear <
 
   plain_set : mask (asks_bit_set setting e) ≡ e.set
   unfolding asks_bit_set
-  plain_set =
-      same_mask (asks_bit_set setting e) (λ k. bit k e.set) (λ k h. left (bit k e.set) (is_testable e k) (resolves_set setting e k) (no_set k))
-      ∙ mask_bits e.set hs
-    where
-      left : (a t r : Bool) → r ≡ false → a || (t && r) ≡ a
-      left a true r q = rw q (or_none a)
-      left a false r q = or_none a
+  plain_set = same_mask (asks_bit_set setting e) (λ k. bit k e.set) (λ k h. grind (arith, no_set k)) ∙ mask_bits e.set hs
 
   plain_clear : mask (asks_bit_clear setting e) ≡ e.clear
   unfolding asks_bit_clear
-  plain_clear =
-      same_mask (asks_bit_clear setting e) (λ k. bit k e.clear)
-      (λ k h. left (bit k e.clear) (is_testable e k) (resolves_clear setting e k) e.bang (is_unlisted setting e k) (no_clear k) plain)
-      ∙ mask_bits e.clear hc
-    where
-      left : (a t r b u : Bool) → r ≡ false → b ≡ false → a || (t && (r || (b && u))) ≡ a
-      left a true r b u p q = rw (p, q) (or_none a)
-      left a false r b u p q = or_none a
+  plain_clear = same_mask (asks_bit_clear setting e) (λ k. bit k e.clear) (λ k h. grind (arith, no_clear k)) ∙ mask_bits e.clear hc
 
   -- it asks its own bits, whatever the maps
   pub asked_plain : asked setting e ≡ record { set = e.set; clear = e.clear; clause = e.clause; dead = false }
   unfolding asked
-  asked_plain =
-      test (mask (asks_bit_set setting e)) e.set (mask (asks_bit_clear setting e)) e.clear e.clause (any (is_unmet setting) (names_of e)) false
-      plain_set plain_clear (ap (any (is_unmet setting)) no_names ∙ none_unmet setting)
-    where
-      test : (a b c d : ℕ) (f g h : Bool) → a ≡ b → c ≡ d → g ≡ h
-          → ◌≡◌ {A = Test} (record { set = a; clear = c; clause = f; dead = g }) (record { set = b; clear = d; clause = f; dead = h })
-      test a b c d f g h p q r = rw (p, q, r)
+  asked_plain = rw (plain_set, plain_clear, no_names, none_unmet)

@@ -2,20 +2,22 @@
 // lists names asks of a state there.
 #![tactic(auto)]
 
-ghost use Rattle.std.specs.Prelude.{◌≡◌, true, false, cond, [], ◌∷◌, ℕ, ◌+◌, ◌≤◌, ◌<◌, length, take, drop};
+ghost use Rattle.std.specs.Prelude.{◌≡◌, true, false, cond, ◌||◌, [], ◌∷◌, ℕ, ◌+◌, ◌<◌, eqb, length};
+ghost use Rattle.std.specs.List.{list_any};
 ghost use Rattle.model.specs.Lists.{any};
 ghost use Rattle.model.specs.Named.{marked_keysym, is_listed};
-ghost use Rattle.model.specs.Resolving.{is_bad_map, keycode_holds, named_keysym, names_of};
+ghost use Rattle.model.specs.Resolving.{is_bad_map, row_of, keycode_holds, named_keysym, names_of};
 ghost use Rattle.model.specs.Modifiers.{bit};
 ghost use Rattle.model.specs.Asked.{asked};
 ghost use Rattle.modifiers.specs.Setting.{with_bit};
-ghost use Rattle.keyboard.specs.Maps.{map_numbers, lent_setting};
+ghost use Rattle.keyboard.specs.Maps.{map_numbers, modifier_entries_in, lent_setting};
 ghost use Rattle.resolving.specs.Gathering.{is_low_entry, MapsReady, bits_of, with_bits, gathered, testable_mask, other_bits, tested, resolved_test};
 
+use keyboard::Pair;
 use model::events::{KeptEvent, Keysyms};
 
 // What is asked of a state: bits set, bits clear, and whether a name listed without `~` has no bit, so that nothing matches.
-#[derive(Clone, Copy)]
+#[derive(Clone, Copy, Default)]
 pub struct Resolved {
     pub set: u16,
     pub clear: u16,
@@ -25,88 +27,86 @@ pub struct Resolved {
 // ---- The modifier map
 
 // Whether some entry is 1..7. All are joined, with no early exit, so that the loop is compiled to vector instructions.
-fn has_low_entry(l: &[u8]) -> bool
-    ensures { result ≡ any is_low_entry l.now }
+#[tactic(auto, using(crate::proofs::Entries::any_list))]
+fn has_low_entry(modifiers: &[u8]) -> bool
+    ensures { result ≡ any is_low_entry modifiers.now }
 {
-    let n = l.len();
     let mut low = false;
-    let mut i: usize = 0;
-    while i < n {
-        let c = l[i];
-        low = low | ((1 <= c) & (c <= 7));
-        i += 1;
+    for c in modifiers {
+        low |= (1..=7).contains(c);
     }
     low
 }
 
 // Number 18: not eight rows of equal length, 1 to 8 keycodes each, or an entry that is neither unused nor a keycode.
+#[tactic(auto, unfolding(model::specs::Resolving::is_bad_map))]
 pub fn is_bad_map(modifiers: &[u8]) -> bool
     ensures { result ≡ is_bad_map modifiers.now }
 {
     let n = modifiers.len();
-    if (n % 8 != 0) | !((8 <= n) & (n <= 64)) {
-        return true;
-    }
-    has_low_entry(modifiers)
+    (n % 8 != 0) || !(8..=64).contains(&n) || has_low_entry(modifiers)
 }
 
 // ---- The bits of a name
 
-// Whether a keycode of a row has one of two keysyms in its pair.
-fn keycode_holds(maps: &[u8], keycode: u8, left: u32, right: u32) -> bool
-    requires { (length (map_numbers maps.now) ≡ 496) × (is_low_entry keycode ≡ false) }
-    ensures { result ≡ keycode_holds (map_numbers maps.now) (left ∷ right ∷ []) keycode }
-{
-    if keycode == 0 {
-        return false;
-    }
-    let pair = keyboard::pair_at(maps, keycode);
-    let a = pair.first;
-    let b = pair.second;
-    ((a == left) | (b == left)) | ((a == right) | (b == right))
-}
-
-// Whether some of n keycodes from a place of the modifier map on has.
-fn row_holds(maps: &[u8], from: usize, n: usize, left: u32, right: u32) -> bool
-    requires { MapsReady maps.now × (1984 ≤ from) × (from + n ≤ length maps.now) }
-    ensures { result ≡ any (keycode_holds (map_numbers maps.now) (left ∷ right ∷ [])) (take n (drop from maps.now)) }
+// Whether a pair has one of some keysyms. No early exit: of one or two keysyms the tests are joined without a branch.
+fn pair_holds<const N: usize>(pair: Pair, keysyms: &[u32; N]) -> bool
+    ensures { result ≡ list_any (λ v. eqb pair.first v || eqb pair.second v) keysyms.now }
 {
     let mut holds = false;
-    let mut i: usize = 0;
-    while i < n {
-        let h = keycode_holds(maps, maps[from + i], left, right);
-        holds = holds | h;
-        i += 1;
+    for k in keysyms {
+        holds |= (pair.first == *k) | (pair.second == *k);
     }
     holds
 }
 
-// A mask with bit k where its row holds one of a name's keysyms.
-fn with_row(bits: u16, k: u8, holds: bool) -> u16
-    requires { (bits < 8192) × (k < 13) }
-    ensures { result ≡ cond holds (with_bit bits k) bits }
+// Whether a keycode of a row has one of some keysyms in its pair.
+#[tactic(auto, using(crate::proofs::Rows::high_keycode, crate::proofs::Entries::any_list), unfolding(model::specs::Resolving::keycode_holds))]
+fn keycode_holds<const N: usize>(maps: &[u8], keycode: u8, keysyms: &[u32; N]) -> bool
+    requires { (length (map_numbers maps.now) ≡ 496) × (is_low_entry keycode ≡ false) }
+    ensures { result ≡ keycode_holds (map_numbers maps.now) keysyms.now keycode }
 {
-    if holds {
-        modifiers::with_bit(bits, k)
-    } else {
-        bits
+    if keycode == 0 {
+        return false;
     }
+    pair_holds(keyboard::pair_at(maps, keycode), keysyms)
 }
 
-// The bits of a name that stands for two keysyms.
-fn bits_of(maps: &[u8], left: u32, right: u32) -> u16
-    requires { MapsReady maps.now }
-    ensures { result ≡ bits_of (lent_setting maps.now 0) (left ∷ right ∷ []) }
+// The keycodes of the row of bit k.
+fn row_of(maps: &[u8], k: usize) -> &[u8]
+    requires { MapsReady maps.now × (k < 8) }
+    ensures row { result.now ≡ row_of (modifier_entries_in maps.now) k }
+    ensures known { any is_low_entry result.now ≡ false }
 {
     let width = (maps.len() - 1984) / 8;
-    let mut bits: u16 = 0;
-    let mut at: usize = 1984;
-    let mut k: u8 = 0;
-    while k < 8 {
-        let holds = row_holds(maps, at, width, left, right);
-        bits = with_row(bits, k, holds);
-        at += width;
-        k += 1;
+    let at = 1984 + k * width;
+    &maps[at..at + width]
+}
+
+// Whether some keycode of a row has.
+#[tactic(auto, using(crate::proofs::Entries::any_list))]
+fn row_holds<const N: usize>(maps: &[u8], row: &[u8], keysyms: &[u32; N]) -> bool
+    requires { MapsReady maps.now × (any is_low_entry row.now ≡ false) }
+    ensures { result ≡ any (keycode_holds (map_numbers maps.now) keysyms.now) row.now }
+{
+    let mut holds = false;
+    for keycode in row {
+        holds |= keycode_holds(maps, *keycode, keysyms);
+    }
+    holds
+}
+
+// The bits of a name that stands for some keysyms.
+#[tactic(auto, using(crate::proofs::Rows::row_steps))]
+fn bits_of<const N: usize>(maps: &[u8], keysyms: &[u32; N]) -> u16
+    requires { MapsReady maps.now }
+    ensures { result ≡ bits_of (lent_setting maps.now 0) keysyms.now }
+{
+    let mut bits = 0;
+    for k in 0..8 {
+        if row_holds(maps, row_of(maps, usize::from(k)), keysyms) {
+            bits = modifiers::with_bit(bits, k);
+        }
     }
     bits
 }
@@ -120,6 +120,7 @@ fn bits_if(asked: bool, bits: u16) -> u16
 }
 
 // What names ask, with one more that has these bits and is listed so.
+#[tactic(auto, unfolding(crate::specs::Gathering::with_bits))]
 fn with_bits(so: Resolved, bits: u16, set: bool, clear: bool) -> Resolved
     ensures { result ≡ with_bits so bits set clear }
 {
@@ -130,25 +131,34 @@ fn with_bits(so: Resolved, bits: u16, set: bool, clear: bool) -> Resolved
     }
 }
 
-// The same with a name that stands for two keysyms. The rows are searched only where it is listed.
-fn with_name(maps: &[u8], so: Resolved, left: u32, right: u32, set: bool, clear: bool) -> Resolved
+// The same with a name that stands for some keysyms. The rows are searched only where it is listed.
+#[tactic(auto, using(crate::proofs::Asking::with_none))]
+fn with_name<const N: usize>(
+    maps: &[u8],
+    so: Resolved,
+    keysyms: &[u32; N],
+    set: bool,
+    clear: bool,
+) -> Resolved
     requires { MapsReady maps.now }
-    ensures { result ≡ with_bits so (bits_of (lent_setting maps.now 0) (left ∷ right ∷ [])) set clear }
+    ensures { result ≡ with_bits so (bits_of (lent_setting maps.now 0) keysyms.now) set clear }
 {
     if set | clear {
-        return with_bits(so, bits_of(maps, left, right), set, clear);
+        with_bits(so, bits_of(maps, keysyms), set, clear)
+    } else {
+        so
     }
-    so
 }
 
 // With Meta, Alt, Hyper or Super, name n of those that an event lists.
-fn with_modifier(maps: &[u8], so: Resolved, names: u16, n: u32, left: u32, right: u32) -> Resolved
+fn with_modifier(maps: &[u8], so: Resolved, names: u8, n: u32, keysyms: &[u32; 2]) -> Resolved
     requires { MapsReady maps.now × (n < 4) }
-    ensures { result ≡ with_bits so (bits_of (lent_setting maps.now 0) (left ∷ right ∷ [])) (bit n names) (bit (n + 4) names) }
+    ensures { result ≡ with_bits so (bits_of (lent_setting maps.now 0) keysyms.now) (bit n names) (bit (n + 4) names) }
 {
+    let names = u16::from(names);
     let set = modifiers::bit(n, names);
     let clear = modifiers::bit(n + 4, names);
-    with_name(maps, so, left, right, set, clear)
+    with_name(maps, so, keysyms, set, clear)
 }
 
 // With a keysym after `@`, where there is one.
@@ -156,15 +166,9 @@ fn with_keysym(maps: &[u8], so: Resolved, s: u32) -> Resolved
     requires { MapsReady maps.now }
     ensures { result ≡ with_bits so (bits_of (lent_setting maps.now 0) (marked_keysym s ∷ [])) (is_listed false s) (is_listed true s) }
 {
-    let v = s % 0x20000000;
-    with_name(
-        maps,
-        so,
-        v,
-        v,
-        s / 0x20000000 % 2 == 1,
-        s / 0x40000000 % 2 == 1,
-    )
+    let set = s / 0x20000000 % 2 == 1;
+    let clear = s / 0x40000000 % 2 == 1;
+    with_name(maps, so, &[s % 0x20000000], set, clear)
 }
 
 // What the keysyms of an event ask.
@@ -172,15 +176,11 @@ fn by_keysyms(maps: &[u8], k: Keysyms) -> Resolved
     requires { MapsReady maps.now }
     ensures { result ≡ gathered (lent_setting maps.now 0) (named_keysym k.first ∷ named_keysym k.second ∷ named_keysym k.third ∷ named_keysym k.fourth ∷ []) }
 {
-    let none = Resolved {
-        set: 0,
-        clear: 0,
-        dead: false,
-    };
-    let one = with_keysym(maps, none, k.fourth);
-    let two = with_keysym(maps, one, k.third);
-    let three = with_keysym(maps, two, k.second);
-    with_keysym(maps, three, k.first)
+    let mut so = Resolved::default();
+    for s in [k.fourth, k.third, k.second, k.first] {
+        so = with_keysym(maps, so, s);
+    }
+    so
 }
 
 // What all its names ask: Meta, Alt, Hyper, Super by their left and right keysyms.
@@ -188,13 +188,11 @@ fn by_names(maps: &[u8], e: KeptEvent) -> Resolved
     requires { MapsReady maps.now }
     ensures { result ≡ gathered (lent_setting maps.now 0) (names_of e) }
 {
-    let names = e.names as u16;
-    let keysyms = e.keysyms;
-    let four = by_keysyms(maps, keysyms);
-    let five = with_modifier(maps, four, names, 3, 0xffeb, 0xffec);
-    let six = with_modifier(maps, five, names, 2, 0xffed, 0xffee);
-    let seven = with_modifier(maps, six, names, 1, 0xffe9, 0xffea);
-    with_modifier(maps, seven, names, 0, 0xffe7, 0xffe8)
+    let so = by_keysyms(maps, e.keysyms);
+    let so = with_modifier(maps, so, e.names, 3, &[0xffeb, 0xffec]);
+    let so = with_modifier(maps, so, e.names, 2, &[0xffed, 0xffee]);
+    let so = with_modifier(maps, so, e.names, 1, &[0xffe9, 0xffea]);
+    with_modifier(maps, so, e.names, 0, &[0xffe7, 0xffe8])
 }
 
 // ---- What an event asks
@@ -228,7 +226,9 @@ fn tested(set: u16, clear: u16, colon: bool, bang: bool, by: Resolved) -> Resolv
     }
 }
 
-// What an event asks of a state under these maps, whatever the multi-click time.
+// What an event asks of a state under these maps, whatever the multi-click time. Few events keep names: it is not made a part of
+// the walk, which then has more registers.
+#[inline(never)]
 pub fn asked_of(maps: &[u8], e: KeptEvent) -> Resolved
     requires { MapsReady maps.now × (e.set < 8192) × (e.clear < 8192) }
     ensures { (limit : ℕ) → result ≡ resolved_test (asked (lent_setting maps.now limit) e) }

@@ -4,7 +4,7 @@ use Prim.Native.Char.{code}
 use mathlib.Core.Path.{◌≡◌, refl, sym, ap, ap₂, ◌∙◌}
 use mathlib.Core.Bool.{Bool, true, false, cond, not, ◌&&◌, ◌||◌, false≢true}
 use mathlib.Core.List.{List, [], ◌∷◌, ◌++◌, append_assoc}
-use mathlib.Core.Option.{some}
+use Rattle.std.specs.Prelude.{Some}
 use lib.Dec.{eqb, ltb}
 use lib.Seq.{append_snoc}
 use borrow.Author.Tests.{not-true}
@@ -78,7 +78,7 @@ derive_detail d r a e =
 -- ---- Count
 
 counted : (w r : List ℕ) → all is_digit_sign w ≡ true → is_some w ≡ true
-    → Grammar.OptionalCount (code "(" ∷ (w ++ (code ")" ∷ r))) (some (record { digits = w; plus = false })) r
+    → Grammar.OptionalCount (code "(" ∷ (w ++ (code ")" ∷ r))) (Some (record { digits = w; plus = false })) r
 counted w r a s =
     Grammar.OptionalCount.present (sign "(" (w ++ (code ")" ∷ r)) refl)
     (no_blanks (w ++ (code ")" ∷ r)) (begins_not is_digit_sign blank (λ b p. letter_blank b (digit_letter b p)) w (code ")" ∷ r) a refl))

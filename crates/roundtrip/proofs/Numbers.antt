@@ -5,7 +5,7 @@ use native.Mathlib.Nat.{pow-suc}
 use mathlib.Core.Path.{◌≡◌, refl, ap, ◌∙◌}
 use mathlib.Core.Bool.{Bool, true, false, ◌&&◌}
 use mathlib.Core.List.{List, [], ◌∷◌, ◌++◌}
-use mathlib.Core.Option.{Option, none, some}
+use Rattle.std.specs.Prelude.{Option, None, Some}
 use lib.Dec.{eqb, ltb}
 use lib.ListN.{length}
 use borrow.Author.Tests.{ltb-true, lt-ltb, le-ltb, eqb-true, ne_eqb}
@@ -40,14 +40,14 @@ digit_letter v h = both_right (eqb (digit_value (digit v)) v) (letter_or_digit (
 
 -- ---- Digits after digits
 
-from_last : (base s v b : ℕ) (w : List ℕ) → ltb (digit_value b) base ≡ true → digits_from base s w ≡ some v
-    → digits_from base s (w ++ (b ∷ [])) ≡ some (v * base + digit_value b)
+from_last : (base s v b : ℕ) (w : List ℕ) → ltb (digit_value b) base ≡ true → digits_from base s w ≡ Some v
+    → digits_from base s (w ++ (b ∷ [])) ≡ Some (v * base + digit_value b)
 unfolding digits_from
 from_last base s v b [] h e = let i : s ≡ v = cc in rw (h, i)
 from_last base s v b (c ∷ w) h e =
     choose (ltb (digit_value c) base)
     (λ q. rw q (from_last base (s * base + digit_value c) v b w h (rw q at e)))
-    (λ q. let f : ◌≡◌ {A = Option ℕ} none (some v) = rw q at e in let z : ◌≡◌ {A = ℕ} 0 1 = cc in absurd (omega arith))
+    (λ q. let f : ◌≡◌ {A = Option ℕ} None (Some v) = rw q at e in let z : ◌≡◌ {A = ℕ} 0 1 = cc in absurd (omega arith))
 
 -- one digit, or the digits of the quotient and then the last one
 in_one : (fuel v : ℕ) → ltb v 16 ≡ true → digits_in 16 (suc fuel) v ≡ digit v ∷ []
@@ -58,12 +58,12 @@ in_more : (fuel v : ℕ) → ltb v 16 ≡ false → digits_in 16 (suc fuel) v �
 unfolding digits_in
 in_more fuel v q = rw q
 
-one_reads : (v : ℕ) → v < 16 → digits_from 16 0 (digit v ∷ []) ≡ some v
+one_reads : (v : ℕ) → v < 16 → digits_from 16 0 (digit v ∷ []) ≡ Some v
 unfolding digits_from
-one_reads v h = rw (digit_value_lem v h, lt-ltb v 16 h) (ap {B = Option ℕ} some (let z : 0 * 16 + v ≡ v = omega arith in z))
+one_reads v h = rw (digit_value_lem v h, lt-ltb v 16 h) (ap {B = Option ℕ} Some (let z : 0 * 16 + v ≡ v = omega arith in z))
 
 -- the digits of a number read back to it
-in_sixteen : (fuel v : ℕ) → v < 16 ^ fuel → 0 < fuel → digits_from 16 0 (digits_in 16 fuel v) ≡ some v
+in_sixteen : (fuel v : ℕ) → v < 16 ^ fuel → 0 < fuel → digits_from 16 0 (digits_in 16 fuel v) ≡ Some v
 in_sixteen zero v h z = absurd (omega arith)
 in_sixteen (suc zero) v h z =
     let l : v < 16 = omega (arith, pow-suc 16 0) in rw (in_one 0 v (lt-ltb v 16 l)) (one_reads v l)
@@ -79,7 +79,7 @@ in_sixteen (suc (suc fuel)) v h z =
     let f : v / 16 * 16 + digit_value (digit (v % 16)) ≡ v = omega arith in
     rw (in_more (suc fuel) v q)
     (from_last 16 0 (v / 16) (digit (v % 16)) (digits_in 16 (suc fuel) (v / 16)) t (in_sixteen (suc fuel) (v / 16) n z)
-    ∙ ap {B = Option ℕ} some f))
+    ∙ ap {B = Option ℕ} Some f))
 
 pub digits_letters : (fuel v : ℕ) → all letter_or_digit (digits_in 16 fuel v) ≡ true
 digits_letters zero v = unfold digits_in in refl

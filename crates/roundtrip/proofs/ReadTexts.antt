@@ -3,7 +3,7 @@ use Prim.Native.Nat.{ℕ}
 use native.Mathlib.Omega.{arith}
 use mathlib.Core.Path.{◌≡◌, refl, sym, ap, ◌∙◌}
 use mathlib.Core.Bool.{true}
-use mathlib.Core.Option.{Option, none, some}
+use Rattle.std.specs.Prelude.{Option, None, Some}
 use mathlib.Core.List.{List, [], ◌∷◌, ◌++◌, map, append_assoc}
 use lib.ListN.{length, length-append}
 use lib.Seq.{append_snoc}
@@ -60,10 +60,10 @@ module _ (text : List ℕ) (allowed : all allowed_byte text ≡ true) where
 
   -- the text ends with these bytes
   abbrev Ending : Option (List ℕ) → Type 0
-  Ending none = Unit
-  Ending (some l) = (b : List ℕ) × (text ≡ b ++ l)
+  Ending None = Unit
+  Ending (Some l) = (b : List ℕ) × (text ≡ b ++ l)
 
-  next_line : {l w : List ℕ} {r : Option (List ℕ)} → Ending (some l) → Line l w r → Ending r
+  next_line : {l w : List ℕ} {r : Option (List ℕ)} → Ending (Some l) → Line l w r → Ending r
   next_line z (Line.last run) = tt
   next_line {l} {w} z (Line.newline {r = r} run) = (
     z.0 ++ (w ++ (10 ∷ [])),
@@ -71,7 +71,7 @@ module _ (text : List ℕ) (allowed : all allowed_byte text ≡ true) where
   )
 
   said_line : {l w : List ℕ} {r : Option (List ℕ)} {es : List WrittenEvent} {cs : List WrittenCall} {ks : List KeptEvent} {ps : List Tables.Production}
-      → Ending (some l) → Line l w r → DerivesProduction w es cs → EventsKept es ks → Said text ps → Said text (production_of (start_in_text text l) ks cs ∷ ps)
+      → Ending (Some l) → Line l w r → DerivesProduction w es cs → EventsKept es ks → Said text ps → Said text (production_of (start_in_text text l) ks cs ∷ ps)
   said_line {l} {w} z (Line.last run) d k rest = more_said z.0 l w [] z.1 run.split d k rest
   said_line {l} {w} z (Line.newline {r = r} run) d k rest = more_said z.0 l w (10 ∷ r) z.1 run.split d k rest
 

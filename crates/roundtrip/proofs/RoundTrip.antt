@@ -2,7 +2,7 @@
 use Prim.Native.Nat.{ℕ, ◌≤◌}
 use mathlib.Core.Path.{◌≡◌, refl, sym, ap, ◌∙◌}
 use mathlib.Core.Bool.{Bool, true, false, not, false≢true}
-use mathlib.Core.Option.{none}
+use Rattle.std.specs.Prelude.{None}
 use mathlib.Core.List.{List, [], ◌∷◌, ◌++◌, map}
 use lib.ListN.{length}
 use Rattle.model.specs.Lists.{those}
@@ -88,7 +88,7 @@ reads_text : (first second : List ℕ) (t : Table) → Writable first second t �
 reads_text first second t w h =
     let text : List ℕ = text_of (contents first second t) in
     let g : LinesGot text text (contents first second t) = lines_got text (contents first second t) [] w.good refl in
-    let u : Upto text none Directive.Replace g.productions =
+    let u : Upto text None Directive.Replace g.productions =
     record {
       derived = g.derived;
       table = TranslationTable.plain g.lines;

@@ -3,7 +3,7 @@ use Prim.Native.Nat.{ℕ}
 use native.Mathlib.Omega.{arith}
 use mathlib.Core.Path.{◌≡◌, refl, sym, ap, ◌∙◌}
 use mathlib.Core.Bool.{true}
-use mathlib.Core.Option.{none, some}
+use Rattle.std.specs.Prelude.{None, Some}
 use mathlib.Core.List.{List, [], ◌∷◌, ◌++◌, map, append_assoc}
 use lib.ListN.{length, length-append}
 use lib.Seq.{append_snoc}
@@ -35,7 +35,7 @@ text_allowed (x ∷ xs) g =
 
 pub record LinesGot (text l : List ℕ) (xs : List Content) : Type 0 where
   pub derived : List Derived
-  pub lines : Lines text (some l) derived none
+  pub lines : Lines text (Some l) derived None
   pub productions : List Tables.Production
   pub kept : ProductionsKept derived productions
   pub same : map (content text []) productions ≡ xs

@@ -2,7 +2,7 @@
 use Prim.Native.Nat.{ℕ, ◌%◌}
 use mathlib.Core.Bool.{Bool, true, false, cond, not}
 use mathlib.Core.List.{List, [], ◌∷◌, ◌++◌, map}
-use mathlib.Core.Option.{Option, none, some}
+use Rattle.std.specs.Prelude.{Option, None, Some}
 use lib.Dec.{leb, ltb}
 use Rattle.model.specs.Lists.{those}
 use Rattle.model.specs.Modifiers.{bit}
@@ -59,7 +59,7 @@ unfoldable pub list_of : KeptEvent → ModifierList
 list_of e = listed (writes_bang e) e.colon (written_modifiers e)
 
 unfoldable pub count_of : ℕ → Option Count
-count_of n = cond (ltb 1 n) (some (record { digits = decimal n; plus = false })) none
+count_of n = cond (ltb 1 n) (Some (record { digits = decimal n; plus = false })) None
 
 abbrev pub written_of : KeptEvent → Written
 written_of e =

@@ -13,6 +13,7 @@ use Rattle.words.proofs.Bools.{chain_parts, chain_all}
 use Rattle.words.proofs.RunLaws.{every_at, every_all, total_add, total_part, total_bound, low_total}
 use Rattle.tables.specs.Layout.{production_events_at, production_calls_at, codes_at, counts_at, sets_at, clears_at, flags_at, lows_at, highs_at}
 use Rattle.event_check.specs.Events.{event_ok, few_at}
+use Rattle.counts.proofs.Elements.{count_at_most}
 use Rattle.counts.specs.Elements.{releases, element_count}
 use Rattle.sequence_check.specs.Sequences.{size_at, production_ok, plain_ok, least_events, most_events, sequences_ok}
 use Rattle.event_check.proofs.EventTests.{EventFacts, event_facts}
@@ -29,24 +30,6 @@ size_more c n h = go (leb n 1) refl (eqb c 3 || eqb c 5) refl
     go false p true q = let m = leb-false n 1 p in rw (p, q) (omega arith)
     go false p false q = let m = leb-false n 1 p in rw (p, q) (omega arith)
 
-pub size_most : (c n : ℕ) → n ≤ 9 → element_count c n ≤ 18
-unfolding element_count releases
-size_most c n h = go (leb n 1) refl (eqb c 3 || eqb c 5) refl
-  where
-    go : (a : Bool) → leb n 1 ≡ a → (b : Bool) → (eqb c 3 || eqb c 5) ≡ b → element_count c n ≤ 18
-    go true p b q = rw p (omega arith)
-    go false p true q = rw (p, q) (omega arith)
-    go false p false q = rw (p, q) (omega arith)
-
-size_few : (c n : ℕ) → n < 4 → element_count c n ≤ 6
-unfolding element_count releases
-size_few c n h = go (leb n 1) refl (eqb c 3 || eqb c 5) refl
-  where
-    go : (a : Bool) → leb n 1 ≡ a → (b : Bool) → (eqb c 3 || eqb c 5) ≡ b → element_count c n ≤ 6
-    go true p b q = rw p (omega arith)
-    go false p true q = rw (p, q) (omega arith)
-    go false p false q = rw (p, q) (omega arith)
-
 -- what an event's count has above 1
 abbrev spare_at : List ℕ → ℕ → ℕ
 spare_at l i = word_at l (counts_at + i) - 1
@@ -59,19 +42,26 @@ spare_total l (suc n) b =
     let m = b n (omega arith) in
     rw zero-add (omega arith)
 
-module _ (l : List ℕ) (n : ℕ) (ok : every (event_ok l) 0 n ≡ true) where
-  event_at : (i : ℕ) → i < n
-      → EventFacts (word_at l (codes_at + i)) (word_at l (counts_at + i)) (word_at l (sets_at + i)) (word_at l (clears_at + i)) (word_at l (flags_at + i)) (word_at l (lows_at + i)) (word_at l (highs_at + i))
+-- events in range, from one on
+module _ (l : List ℕ) (from n : ℕ) (ok : every (event_ok l) from n ≡ true) (i : ℕ) (h : i < n) where
+  event_at : EventFacts (word_at l (codes_at + (from + i))) (word_at l (counts_at + (from + i))) (word_at l (sets_at + (from + i))) (word_at l (clears_at + (from + i))) (word_at l (flags_at + (from + i))) (word_at l (lows_at + (from + i))) (word_at l (highs_at + (from + i)))
   unfolding event_ok
-  event_at i h =
-      event_facts (word_at l (codes_at + i)) (word_at l (counts_at + i)) (word_at l (sets_at + i)) (word_at l (clears_at + i)) (word_at l (flags_at + i)) (word_at l (lows_at + i)) (word_at l (highs_at + i))
-      (rw zero-add at (every_at (event_ok l) 0 n i ok h))
+  event_at =
+      event_facts (word_at l (codes_at + (from + i))) (word_at l (counts_at + (from + i))) (word_at l (sets_at + (from + i))) (word_at l (clears_at + (from + i))) (word_at l (flags_at + (from + i))) (word_at l (lows_at + (from + i))) (word_at l (highs_at + (from + i)))
+      (every_at (event_ok l) from n i ok h)
 
-  pub count_low : (i : ℕ) → i < n → 1 ≤ word_at l (counts_at + i)
-  count_low i h = (event_at i h).count_low
+  pub count_low_from : 1 ≤ word_at l (counts_at + (from + i))
+  count_low_from = event_at.count_low
 
-  pub count_high_lem : (i : ℕ) → i < n → word_at l (counts_at + i) ≤ 9
-  count_high_lem i h = (event_at i h).count_high
+  pub count_high_from : word_at l (counts_at + (from + i)) ≤ 9
+  count_high_from = event_at.count_high
+
+module _ (l : List ℕ) (n : ℕ) (ok : every (event_ok l) 0 n ≡ true) where
+  count_low : (i : ℕ) → i < n → 1 ≤ word_at l (counts_at + i)
+  count_low i h = rw zero-add at (count_low_from l 0 n ok i h)
+
+  count_high_lem : (i : ℕ) → i < n → word_at l (counts_at + i) ≤ 9
+  count_high_lem i h = rw zero-add at (count_high_from l 0 n ok i h)
 
   pub low_counts : total (low_at l) counts_at n ≡ total (word_at l) counts_at n
   low_counts = low_total l counts_at n (λ i h. small i (count_high_lem i h))
@@ -107,7 +97,7 @@ module _ (l : List ℕ) (n : ℕ) (ok : every (event_ok l) 0 n ≡ true) where
   size_any : (from m i : ℕ) → from + m ≤ n → i < m → size_at l (from + i) ≤ 18
   unfolding size_at
   size_any from m i h b =
-      size_most (word_at l (codes_at + (from + i))) (word_at l (counts_at + (from + i))) (count_high_lem (from + i) (omega arith))
+      count_at_most (word_at l (codes_at + (from + i))) (word_at l (counts_at + (from + i))) 9 (count_high_lem (from + i) (omega arith)) (omega arith)
 
   few_at_lem : (i : ℕ) → every (few_at l) 0 n ≡ true → i < n → word_at l (counts_at + i) < 4
   unfolding few_at
@@ -116,7 +106,8 @@ module _ (l : List ℕ) (n : ℕ) (ok : every (event_ok l) 0 n ≡ true) where
   size_low : (from m i : ℕ) → every (few_at l) 0 n ≡ true → from + m ≤ n → i < m → size_at l (from + i) ≤ 6
   unfolding size_at
   size_low from m i e h b =
-      size_few (word_at l (codes_at + (from + i))) (word_at l (counts_at + (from + i))) (few_at_lem (from + i) e (omega arith))
+      let f = few_at_lem (from + i) e (omega arith) in
+      count_at_most (word_at l (codes_at + (from + i))) (word_at l (counts_at + (from + i))) 3 (omega arith) (omega arith)
 
   -- so many events stand for at most 24, whichever they are
   sizes_least : (few : Bool) → few ≡ every (few_at l) 0 n → (from m : ℕ) → from + m ≤ n → m ≤ least_events few → total (size_at l) from m ≤ 24

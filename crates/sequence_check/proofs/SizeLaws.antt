@@ -1,21 +1,12 @@
--- How many events an event stands for: bounds, and as the code counts them.
-use Prim.Native.Nat.{ℕ, ◌-◌, ◌*◌, ◌≤◌, ◌<◌}
+-- How many events an event stands for, as the code counts them.
+use Prim.Native.Nat.{ℕ, ◌-◌, ◌*◌, ◌≤◌}
 use native.Mathlib.Omega.{arith}
 use mathlib.Core.Path.{◌≡◌, refl}
 use mathlib.Core.Bool.{Bool, true, false, ◌||◌, ◌&&◌}
-use lib.Dec.{leb, ltb, eqb}
+use lib.Dec.{ltb, eqb}
 use borrow.Author.Tests.{le-leb, lt-leb, ltb-true, ltb-false}
 use Rattle.words.proofs.Bools.{and_left, and_right}
 use Rattle.counts.specs.Elements.{releases, element_count}
-
-pub size_below : (c n : ℕ) → n < 65536 → element_count c n ≤ 131070
-unfolding element_count releases
-size_below c n h = go (leb n 1) refl (eqb c 3 || eqb c 5) refl
-  where
-    go : (a : Bool) → leb n 1 ≡ a → (b : Bool) → (eqb c 3 || eqb c 5) ≡ b → element_count c n ≤ 131070
-    go true p b q = rw p (omega arith)
-    go false p true q = rw (p, q) (omega arith)
-    go false p false q = rw (p, q) (omega arith)
 
 -- an event in range stands for one event less than twice its count, or for twice its count where it is a counted release
 module _ (c n : ℕ) where

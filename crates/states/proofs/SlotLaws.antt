@@ -2,21 +2,24 @@
 use Prim.Native.Nat.{ℕ, zero, suc, ◌+◌, ◌*◌, ◌-◌, ◌%◌, ◌/◌, ◌≤◌, ◌<◌}
 use native.Mathlib.Omega.{arith}
 use native.Mathlib.Nat.{zero-add}
-use borrow.Author.Tests.{ltb-true, lt-ltb}
+use Rattle.std.proofs.lemmas.Bool.Decides.{nat_tests}
 use mathlib.Core.Path.{◌≡◌, refl, sym, ap, ap₂, ◌∙◌}
-use mathlib.Core.Bool.{true}
+use mathlib.Core.Bool.{true, ◌&&◌}
 use mathlib.Core.List.{List, [], ◌∷◌, ◌++◌, append-nil, append_assoc}
-use lib.Dec.{ltb}
-use lib.ListN.{length, get_or, set, take, drop, length-append, length-drop, take-append-drop}
-use lib.Seq.{take_at, drop_at, take-add, take-append-le, ext_get_or, get_or-drop, get_or-take, length-take-le, drop-append-add, sets, sets-eq, length-sets, get_or-append-add}
+use native.Mathlib.Numerals.{add-one}
+use Rattle.std.proofs.lemmas.List.Folds.{list_all_more}
+use lib.Dec.{eqb}
+use lib.ListN.{length, get_or, set, take, drop, length-set, length-append, length-drop, take-append-drop}
+use lib.Seq.{take_at, drop_at, take-add, take-append-le, ext_get_or, get_or-drop, get_or-take, length-take-le, drop-append-add, drop-drop, sets, sets-eq, length-sets, get_or-append-add}
+use borrow.Rule.Slice.PartMut.{put_mid}
 use Rattle.words.specs.Words.{word_at, zeros}
-use Rattle.words.specs.Runs.{run}
-use Rattle.words.proofs.Bools.{chain_parts, chain_all}
+use Rattle.words.specs.Runs.{run, every}
+use Rattle.std.specs.List.{list_all}
 use Rattle.words.proofs.Laws.{length_zeros, get_d_zeros, zeros_add}
-use Rattle.words.proofs.RunLaws.{length_run, get_d_run, run_append, run_more, run_last, run_list, run_same}
+use Rattle.words.proofs.RunLaws.{every_more, length_run, get_d_run, run_append, run_more, run_last, run_list, run_same}
 use Rattle.keyboard.specs.Maps.{number_from}
 use Rattle.model.specs.declared.events.Event.{Event}
-use Rattle.states.specs.State.{zero_event, event_bytes, event_from, event_in, slots_of, put_slot, events_bytes, in_slots, low_bytes}
+use Rattle.states.specs.State.{zero_event, event_bytes, event_from, event_in, slots_of, put_slot, events_bytes, in_slots, low_bytes, event_whole, used_whole, byte_zero}
 
 -- ---- The slots of bytes
 
@@ -39,13 +42,13 @@ first_slots l n h =
 
 -- ---- One event
 
-pub event_path : (a b : Event) → a.code ≡ b.code → a.detail ≡ b.detail → a.time ≡ b.time → a.state ≡ b.state → a ≡ b
-event_path a b p q r s = λ i. record { code = p i; detail = q i; time = r i; state = s i }
-
 -- what is stored is read back
 read_stored : (x : Event) (rest : List ℕ) → event_from (event_bytes x ++ rest) ≡ x
 unfolding event_from event_bytes number_from
-read_stored x rest = event_path (event_from (event_bytes x ++ rest)) x refl refl (omega arith) (omega arith)
+read_stored x rest =
+    let s : x.state % 256 + 256 * (x.state / 256) ≡ x.state = omega arith in
+    let t : x.time % 256 + 256 * (x.time / 256 % 256) + 65536 * (x.time / 65536 % 256) + 16777216 * (x.time / 16777216) ≡ x.time = omega arith in
+    rw (s, t)
 
 -- the bytes from which an event is read are those of the event
 stored_read : (d : List ℕ) → 8 ≤ length d → get_or d 2 0 < 256 → get_or d 4 0 < 256 → get_or d 5 0 < 256 → get_or d 6 0 < 256
@@ -84,11 +87,7 @@ event_at l j time state t s =
     let c : 8 * j + 4 + 3 ≡ 8 * j + 7 = omega arith in
     let e : 2 * (4 * j + 1) ≡ 8 * j + 2 = omega arith in
     let f : 2 * (4 * j + 1) + 1 ≡ 8 * j + 3 = omega arith in
-    event_path (record { code = get_or l (8 * j) 0; detail = get_or l (8 * j + 1) 0; time = time; state = state }) (event_from (drop (8 * j) l))
-    (sym (at 0 ∙ ap (λ (k : ℕ). get_or l k 0) z))
-    (sym (at 1))
-    (t ∙ rw (a, b, c, at 4, at 5, at 6, at 7))
-    (s ∙ rw (f, e, at 2, at 3))
+    rw (t, s, a, b, c, f, e, at 0, at 1, at 2, at 3, at 4, at 5, at 6, at 7, z)
 
 pub length_put : (l : List ℕ) (j : ℕ) (x : Event) → length (put_slot l j x) ≡ length l
 unfolding put_slot
@@ -98,31 +97,51 @@ length_put l j x = length-sets l (8 * j) (event_bytes x)
 pub slot_code : (l : List ℕ) (j : ℕ) → get_or l (8 * j) 0 ≡ (event_in l j).code
 unfolding event_in event_from
 slot_code l j =
-    let z : 8 * j ≡ 8 * j + 0 = omega arith in
-    ap (λ (k : ℕ). get_or l k 0) z ∙ sym (get_or-drop (8 * j) l 0 0)
+    let z : 8 * j + 0 ≡ 8 * j = omega arith in
+    rw (get_or-drop (8 * j) l 0 0, z)
 
--- the eight stores
-pub stores : (l : List ℕ) (j : ℕ) (x : Event)
-    → set
-    (set
-    (set
-    (set
-    (set (set (set (set l (8 * j) x.code) (8 * j + 1) x.detail) (8 * j + 2) (x.state % 256)) (8 * j + 3) (x.state / 256))
-    (8 * j + 4) (x.time % 256))
-    (8 * j + 5) (x.time / 256 % 256))
-    (8 * j + 6) (x.time / 65536 % 256))
-    (8 * j + 7) (x.time / 16777216)
-    ≡ put_slot l j x
+-- a part of bytes stored
+put_part : (l ys : List ℕ) (a n : ℕ) → length ys ≡ n → a + n ≤ length l → put_mid a n l ys ≡ sets l a ys
+put_part l ys a n e h =
+    let b : a + length ys ≤ length l = omega arith in
+    rw (← e, drop-drop) (sym (sets-eq ys l a b ∙ append_assoc (take a l) ys (drop (a + length ys) l)))
+
+-- the bytes of an event: code and detail, and the parts of the state and of the time
+pub stores : (l s t : List ℕ) (j m n : ℕ) (x : Event) → 8 * j + 8 ≤ length l → m ≡ 2 → n ≡ 4
+    → s ≡ x.state % 256 ∷ x.state / 256 ∷ [] → t ≡ x.time % 256 ∷ x.time / 256 % 256 ∷ x.time / 65536 % 256 ∷ x.time / 16777216 ∷ []
+    → put_mid (8 * j + 4) n (put_mid (8 * j + 2) m (set (set l (8 * j) x.code) (8 * j + 1) x.detail) s) t ≡ put_slot l j x
 unfolding put_slot event_bytes
-stores l j x =
+stores l s t j m n x h p q e f =
+    let w : List ℕ = set (set l (8 * j) x.code) (8 * j + 1) x.detail in
+    let k : length w ≡ length l = simp length-set in
+    let o = length-sets w (8 * j + 2) s in
     let a : 8 * j + 1 ≡ suc (8 * j) = omega arith in
     let b : 8 * j + 2 ≡ suc (suc (8 * j)) = omega arith in
-    let c : 8 * j + 3 ≡ suc (suc (suc (8 * j))) = omega arith in
-    let d : 8 * j + 4 ≡ suc (suc (suc (suc (8 * j)))) = omega arith in
-    let e : 8 * j + 5 ≡ suc (suc (suc (suc (suc (8 * j))))) = omega arith in
-    let f : 8 * j + 6 ≡ suc (suc (suc (suc (suc (suc (8 * j)))))) = omega arith in
-    let g : 8 * j + 7 ≡ suc (suc (suc (suc (suc (suc (suc (8 * j))))))) = omega arith in
-    rw (a, b, c, d, e, f, g)
+    let c : 8 * j + 4 ≡ suc (suc (suc (suc (8 * j)))) = omega arith in
+    let one : put_mid (8 * j + 2) m w s ≡ sets w (8 * j + 2) s = put_part w s (8 * j + 2) m (rw e (sym p)) (omega arith) in
+    let two : put_mid (8 * j + 4) n (sets w (8 * j + 2) s) t ≡ sets (sets w (8 * j + 2) s) (8 * j + 4) t
+    = put_part (sets w (8 * j + 2) s) t (8 * j + 4) n (rw f (sym q)) (omega arith) in
+    rw (one, two, e, f, a, b, c)
+
+-- ---- Slots tested one after the other
+
+pub used_none : (l : List ℕ) → every (used_whole l) 0 0 ≡ true
+unfolding every
+used_none l = refl
+
+pub used_more : (l : List ℕ) (n : ℕ) → every (used_whole l) 0 (n + 1) ≡ (every (used_whole l) 0 n && event_whole (event_in l n))
+unfolding used_whole
+used_more l n = rw (every_more, zero-add)
+
+-- every byte of a part is zero
+pub zero_part : (l : List ℕ) (k n : ℕ) → k + n ≤ length l → list_all (λ b. eqb b 0) (take n (drop k l)) ≡ every (byte_zero l) k n
+unfolding every byte_zero
+zero_part l k zero h = refl
+zero_part l k (suc n) h =
+    let m : n < length (drop k l) = omega (arith, length-drop k l) in
+    ap (λ (i : ℕ). list_all (λ b. eqb b 0) (take i (drop k l))) (sym (add-one n))
+    ∙ list_all_more (λ b. eqb b 0) (drop k l) n 0 m
+    ∙ ap₂ ◌&&◌ (zero_part l k n (omega arith)) (ap (λ (b : ℕ). eqb b 0) (get_or-drop k l n 0))
 
 -- ---- Events one after the other
 
@@ -317,27 +336,16 @@ record Low (l : List ℕ) (i : ℕ) : Type 0 where
 low_parts : (l : List ℕ) (i : ℕ) → low_bytes l i ≡ true → Low l i
 unfolding low_bytes
 low_parts l i q =
-    let r =
-    chain_parts (ltb (get_or l (8 * i + 2) 0) 256)
-    (ltb (get_or l (8 * i + 4) 0) 256 ∷ ltb (get_or l (8 * i + 5) 0) 256 ∷ ltb (get_or l (8 * i + 6) 0) 256 ∷ []) q in
     record {
-      second = ltb-true (get_or l (8 * i + 2) 0) 256 r.0;
-      fourth = ltb-true (get_or l (8 * i + 4) 0) 256 r.1.0;
-      fifth = ltb-true (get_or l (8 * i + 5) 0) 256 r.1.1.0;
-      sixth = ltb-true (get_or l (8 * i + 6) 0) 256 r.1.1.1.0;
+      second = grind (arith, nat_tests);
+      fourth = grind (arith, nat_tests);
+      fifth = grind (arith, nat_tests);
+      sixth = grind (arith, nat_tests);
     }
 
 low_all : (l : List ℕ) (i : ℕ) → Low l i → low_bytes l i ≡ true
 unfolding low_bytes
-low_all l i w =
-    chain_all (ltb (get_or l (8 * i + 2) 0) 256)
-    (ltb (get_or l (8 * i + 4) 0) 256 ∷ ltb (get_or l (8 * i + 5) 0) 256 ∷ ltb (get_or l (8 * i + 6) 0) 256 ∷ []) (
-      lt-ltb (get_or l (8 * i + 2) 0) 256 w.second,
-      (
-        lt-ltb (get_or l (8 * i + 4) 0) 256 w.fourth,
-        (lt-ltb (get_or l (8 * i + 5) 0) 256 w.fifth, (lt-ltb (get_or l (8 * i + 6) 0) 256 w.sixth, tt)),
-      ),
-    )
+low_all l i w = grind (arith, nat_tests, w.second, w.fourth, w.fifth, w.sixth)
 
 -- of bytes they are
 pub low_bytes_lem : (l : List ℕ) (i : ℕ) → ((k : ℕ) → k < length l → get_or l k 0 < 256) → 8 * i + 8 ≤ length l → low_bytes l i ≡ true

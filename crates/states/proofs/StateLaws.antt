@@ -2,15 +2,14 @@
 use Prim.Native.Nat.{ℕ, zero, suc, ◌+◌, ◌*◌, ◌-◌, ◌≤◌, ◌<◌}
 use native.Mathlib.Omega.{arith}
 use native.Mathlib.Nat.{zero-add}
-use borrow.Author.Tests.{eqb-true, eqb-false, eq-eqb, ne_eqb, leb-true, ltb-true, ltb-false, le-leb, lt-ltb, le-ltb}
-use mathlib.Core.Path.{◌≡◌, refl, sym, ap, ap₂, ◌∙◌}
-use mathlib.Core.Bool.{Bool, true, false, not, ◌&&◌, ◌||◌, false≢true}
+use borrow.Author.Tests.{eqb-true, eq-eqb}
+use Rattle.std.proofs.lemmas.Bool.Decides.{nat_tests}
+use mathlib.Core.Path.{◌≡◌, refl, sym, ap, ◌∙◌}
+use mathlib.Core.Bool.{Bool, true, false, false≢true}
 use mathlib.Core.List.{List, [], ◌∷◌, ◌++◌}
-use lib.Dec.{eqb, leb, ltb}
 use lib.ListN.{length, get_or, take}
 use lib.Seq.{get_or-take, length-take-le}
 use Rattle.words.specs.Runs.{every}
-use Rattle.words.proofs.Bools.{chain_parts, chain_all}
 use Rattle.words.proofs.RunLaws.{every_at, every_all}
 use Rattle.records.specs.Ranges.{EventRanges}
 use Rattle.model.specs.Codes.{is_motion}
@@ -26,28 +25,16 @@ use Rattle.states.proofs.SlotLaws.{length_slots, in_slot, length_in, slot_used, 
 pub event_ranges : (e : Event) → event_whole e ≡ true → EventRanges e
 unfolding event_whole
 event_ranges e q =
-    let r = chain_parts (leb 2 e.code) (leb e.code 34 ∷ ltb e.state 8192 ∷ (ltb 3 e.code || leb 8 e.detail) ∷ []) q in
     record {
-      code_least = leb-true 2 e.code r.0;
-      code_most = leb-true e.code 34 r.1.0;
-      state_most = ltb-true e.state 8192 r.1.1.0;
-      keycode_least = λ h. leb-true 8 e.detail (ap (λ (t : Bool). t || leb 8 e.detail) (sym (le-ltb 3 e.code h)) ∙ r.1.1.1.0);
+      code_least = grind (arith, nat_tests);
+      code_most = grind (arith, nat_tests);
+      state_most = grind (arith, nat_tests);
+      keycode_least = λ h. grind (arith, nat_tests);
     }
-
-keycode : (e : Event) → EventRanges e → (ltb 3 e.code || leb 8 e.detail) ≡ true
-keycode e r = go (ltb 3 e.code) refl
-  where
-    go : (t : Bool) → ltb 3 e.code ≡ t → (t || leb 8 e.detail) ≡ true
-    go true q = refl
-    go false q = le-leb 8 e.detail (r.keycode_least (ltb-false 3 e.code q))
 
 pub ranges_event : (e : Event) → EventRanges e → event_whole e ≡ true
 unfolding event_whole
-ranges_event e r =
-    chain_all (leb 2 e.code) (leb e.code 34 ∷ ltb e.state 8192 ∷ (ltb 3 e.code || leb 8 e.detail) ∷ []) (
-      le-leb 2 e.code r.code_least,
-      (le-leb e.code 34 r.code_most, (lt-ltb e.state 8192 r.state_most, (keycode e r, tt))),
-    )
+ranges_event e r = grind (arith, nat_tests, r.code_least, r.code_most, r.state_most, r.keycode_least)
 
 -- ---- What a whole state has
 
@@ -65,128 +52,49 @@ pub record StateFacts (s : State) : Type 0 where
   -- where none is open the last event is one that a motion replaces
   pub last : s.«open» ≡ false → 0 < s.kept → is_motion (event_in s.events (s.kept - 1)).code ≡ true
 
--- whether a context is open, beside whether no event is kept and whether none is used up
-abbrev open_whole : (is_open empty unmarked : Bool) → Bool
-open_whole is_open empty unmarked = (is_open && not empty) || (not is_open && unmarked)
-
-open_kept : (o z w : Bool) → open_whole o z w ≡ true → o ≡ true → z ≡ false
-open_kept true true w q e = absurd (false≢true q)
-open_kept true false w q e = refl
-open_kept false z w q e = absurd (false≢true e)
-
-shut_unmarked : (o z w : Bool) → open_whole o z w ≡ true → o ≡ false → w ≡ true
-shut_unmarked true z w q e = absurd (false≢true (sym e))
-shut_unmarked false z w q e = q
-
-open_whole_lem : (o z w : Bool) → (o ≡ true → z ≡ false) → (o ≡ false → w ≡ true) → open_whole o z w ≡ true
-open_whole_lem true z w f g = rw (f refl)
-open_whole_lem false z w f g = g refl
-
 pub state_facts : (s : State) → whole_state s ≡ true → StateFacts s
 unfolding whole_state marks_whole slots_whole last_whole used_whole byte_zero
 state_facts s q =
-    let r =
-    chain_parts (eqb (length s.events) slot_bytes)
-    (marks_whole s.kept s.selected s.«open» ∷ slots_whole s.events s.kept ∷ last_whole s.events s.kept s.«open» ∷ []) q in
-    let m =
-    chain_parts (leb s.kept 24)
-    (leb s.selected s.kept ∷ open_whole s.«open» (eqb s.kept 0) (eqb s.selected 0) ∷ [])
-    r.1.0 in
-    let t =
-    chain_parts (every (low_bytes s.events) 0 s.kept)
-    (every (used_whole s.events) 0 s.kept ∷ every (byte_zero s.events) (8 * s.kept) (slot_bytes - 8 * s.kept) ∷ [])
-    r.1.1.0 in
-    let few : s.kept ≤ 24 = leb-true s.kept 24 m.0 in
+    let low : every (low_bytes s.events) 0 s.kept ≡ true = grind (arith, nat_tests) in
+    let used : every (used_whole s.events) 0 s.kept ≡ true = grind (arith, nat_tests) in
+    let unused : every (byte_zero s.events) (8 * s.kept) (slot_bytes - 8 * s.kept) ≡ true = grind (arith, nat_tests) in
+    let few : s.kept ≤ 24 = grind (arith, nat_tests) in
     record {
-      long = eqb-true (length s.events) slot_bytes r.0;
+      long = grind (arith, nat_tests);
       few = few;
-      within = leb-true s.selected s.kept m.1.0;
-      opened = λ o. let z = eqb-false s.kept 0 (open_kept s.«open» (eqb s.kept 0) (eqb s.selected 0) m.1.1.0 o) in omega arith;
-      shut = λ o. eqb-true s.selected 0 (shut_unmarked s.«open» (eqb s.kept 0) (eqb s.selected 0) m.1.1.0 o);
-      low = λ i h. rw zero-add at (every_at (low_bytes s.events) 0 s.kept i t.0 h);
-      used = λ i h. event_ranges (event_in s.events i) (rw zero-add at (every_at (used_whole s.events) 0 s.kept i t.1.0 h));
+      within = grind (arith, nat_tests);
+      opened = λ o. grind (arith, nat_tests);
+      shut = λ o. grind (arith, nat_tests);
+      low = λ i h. rw zero-add at (every_at (low_bytes s.events) 0 s.kept i low h);
+      used = λ i h. event_ranges (event_in s.events i) (rw zero-add at (every_at (used_whole s.events) 0 s.kept i used h));
       unused = λ k h l.
           let e : 8 * s.kept + (k - 8 * s.kept) ≡ k = omega arith in
           let b : k - 8 * s.kept < slot_bytes - 8 * s.kept = omega arith in
           eqb-true (get_or s.events k 0) 0
-          (ap (byte_zero s.events) (sym e) ∙ every_at (byte_zero s.events) (8 * s.kept) (slot_bytes - 8 * s.kept) (k - 8 * s.kept) t.1.1.0 b);
-      last = λ o h.
-          let z : eqb s.kept 0 ≡ false = ne_eqb s.kept 0 (λ e. omega arith) in
-          ap₂ (λ (a b : Bool). a || b || is_motion (event_in s.events (s.kept - 1)).code) (sym o) (sym z) ∙ r.1.1.1.0;
+          (ap (byte_zero s.events) (sym e) ∙ every_at (byte_zero s.events) (8 * s.kept) (slot_bytes - 8 * s.kept) (k - 8 * s.kept) unused b);
+      last = λ o h. grind (arith, nat_tests);
     }
 
 pub marks_few : (kept selected : ℕ) (is_open : Bool) → marks_whole kept selected is_open ≡ true → kept ≤ 24
 unfolding marks_whole
-marks_few kept selected is_open q =
-    leb-true kept 24
-    (chain_parts (leb kept 24) (leb selected kept ∷ open_whole is_open (eqb kept 0) (eqb selected 0) ∷ []) q).0
-
--- marks that are not whole are those of no whole state
-pub marks_not : (s : State) → marks_whole s.kept s.selected s.«open» ≡ false → whole_state s ≡ false
-unfolding whole_state
-marks_not s q = rw q (no_part (eqb (length s.events) slot_bytes))
-  where
-    no_part : (a : Bool) → (a && false && slots_whole s.events s.kept && last_whole s.events s.kept s.«open») ≡ false
-    no_part true = refl
-    no_part false = refl
+marks_few kept selected is_open q = grind (arith, nat_tests)
 
 pub facts_state : (s : State) → StateFacts s → whole_state s ≡ true
 unfolding whole_state marks_whole slots_whole last_whole used_whole byte_zero
 facts_state s f =
-    chain_all (eqb (length s.events) slot_bytes)
-    (marks_whole s.kept s.selected s.«open» ∷ slots_whole s.events s.kept ∷ last_whole s.events s.kept s.«open» ∷ []) (
-      eq-eqb (length s.events) slot_bytes f.long,
-      (marks, (held, (ends s.«open» refl (eqb s.kept 0) refl, tt))),
-    )
-  where
-    marks : marks_whole s.kept s.selected s.«open» ≡ true
-    marks =
-        chain_all (leb s.kept 24)
-        (leb s.selected s.kept ∷ open_whole s.«open» (eqb s.kept 0) (eqb s.selected 0) ∷ []) (
-          le-leb s.kept 24 f.few,
-          (
-            le-leb s.selected s.kept f.within,
-            (
-              open_whole_lem s.«open» (eqb s.kept 0) (eqb s.selected 0)
-                  (λ o. ne_eqb s.kept 0 (λ e. let n = f.opened o in omega arith))
-                  (λ o. eq-eqb s.selected 0 (f.shut o)),
-              tt,
-            ),
-          ),
-        )
-
-    held : slots_whole s.events s.kept ≡ true
-    held =
-        chain_all (every (low_bytes s.events) 0 s.kept)
-        (every (used_whole s.events) 0 s.kept ∷ every (byte_zero s.events) (8 * s.kept) (slot_bytes - 8 * s.kept) ∷ []) (
-          every_all (low_bytes s.events) 0 s.kept (λ i h. rw zero-add (f.low i h)),
-          (
-            every_all (used_whole s.events) 0 s.kept (λ i h. rw zero-add (ranges_event (event_in s.events i) (f.used i h))),
-            (
-              every_all (byte_zero s.events) (8 * s.kept) (slot_bytes - 8 * s.kept)
-                  (λ i h. eq-eqb (get_or s.events (8 * s.kept + i) 0) 0 (f.unused (8 * s.kept + i) (omega arith) (omega arith))),
-              tt,
-            ),
-          ),
-        )
-
-    ends : (o : Bool) → s.«open» ≡ o → (z : Bool) → eqb s.kept 0 ≡ z
-        → (o || z || is_motion (event_in s.events (s.kept - 1)).code) ≡ true
-    ends true o z e = refl
-    ends false o true e = refl
-    ends false o false e = let n = eqb-false s.kept 0 e in f.last o (omega arith)
+    let low : every (low_bytes s.events) 0 s.kept ≡ true = every_all (low_bytes s.events) 0 s.kept (λ i h. rw zero-add (f.low i h)) in
+    let used : every (used_whole s.events) 0 s.kept ≡ true
+    = every_all (used_whole s.events) 0 s.kept (λ i h. rw zero-add (ranges_event (event_in s.events i) (f.used i h))) in
+    let unused : every (byte_zero s.events) (8 * s.kept) (slot_bytes - 8 * s.kept) ≡ true
+    = every_all (byte_zero s.events) (8 * s.kept) (slot_bytes - 8 * s.kept)
+    (λ i h. eq-eqb (get_or s.events (8 * s.kept + i) 0) 0 (f.unused (8 * s.kept + i) (omega arith) (omega arith))) in
+    grind (arith, nat_tests, f.long, f.few, f.within, f.opened, f.shut, f.last)
 
 -- ---- The laws
 
-kept_path : (a b : Kept Event) → a.events ≡ b.events → a.selected ≡ b.selected → a.is_open ≡ b.is_open → a ≡ b
-kept_path a b p q r = λ i. record { events = p i; selected = q i; is_open = r i }
-
-state_path : (a b : State) → a.kept ≡ b.kept → a.selected ≡ b.selected → a.«open» ≡ b.«open» → a.events ≡ b.events → a ≡ b
-state_path a b p q r t = λ i. record { kept = p i; selected = q i; «open» = r i; events = t i }
-
 pub kept_state : (k : Kept Event) → length k.events ≤ 25 → kept_of (state_keeping k) ≡ k
 unfolding kept_of state_keeping state_with
-kept_state k h = kept_path (kept_of (state_keeping k)) k (take_slots k.events h) refl refl
+kept_state k h = rw (take_slots k.events h)
 
 module _ (s : State) (f : StateFacts s) where
   pub length_kept : length (take s.kept (slots_of s.events)) ≡ s.kept
@@ -198,8 +106,7 @@ module _ (s : State) (f : StateFacts s) where
 
   pub state_kept : state_keeping (kept_of s) ≡ s
   unfolding kept_of state_keeping state_with
-  state_kept =
-      state_path (state_keeping (kept_of s)) s length_kept refl refl slots_kept
+  state_kept = rw (length_kept, slots_kept)
 
 -- ---- The state that stands for events in range
 

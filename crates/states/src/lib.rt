@@ -2,8 +2,9 @@
 // in the place of the last might still begin a context at; and nothing else.
 #![tactic(auto)]
 
-ghost use Rattle.std.specs.Prelude.{◌≡◌, ◌+◌, ◌*◌, ◌-◌, ◌≤◌, length};
-ghost use Rattle.states.specs.State.{event_whole, used_whole, byte_zero, slots_whole, marks_whole, last_whole, whole_state, fresh_state, state_limits};
+ghost use Rattle.std.specs.Prelude.{◌≡◌, ◌≤◌, eqb};
+ghost use Rattle.states.specs.State.{event_whole, used_whole, slots_whole, marks_whole, last_whole, whole_state, fresh_state, state_limits};
+ghost use Rattle.std.specs.List.{list_all};
 ghost use Rattle.words.specs.Runs.{every};
 
 use model::events::Event;
@@ -62,6 +63,7 @@ impl State {
     }
 
     // No events: all zero.
+    #[tactic(auto, unfolding(crate::specs::State::state_with, crate::specs::State::in_slots, crate::specs::State::events_bytes, words::specs::Words::zeros))]
     pub fn fresh() -> State
         ensures { result ≡ fresh_state }
     {
@@ -75,49 +77,47 @@ impl State {
 }
 
 // An event with the ranges of one that was read from a record.
+#[tactic(auto, unfolding(crate::specs::State::event_whole))]
 fn event_whole(e: Event) -> bool
     ensures { result ≡ event_whole e }
 {
-    (2 <= e.code) & (e.code <= 34) & (e.state < 8192) & ((3 < e.code) | (8 <= e.detail))
+    (2..=34).contains(&e.code) & (e.state < 8192) & ((3 < e.code) | (8 <= e.detail))
 }
 
 // Whether every slot that is used holds such an event.
-fn used_whole(events: &[u8], kept: usize) -> bool
-    requires { 8 * kept ≤ length events.now }
+#[tactic(auto, using(crate::proofs::SlotLaws::used_none, crate::proofs::SlotLaws::used_more))]
+fn used_whole(events: &[u8; 200], kept: usize) -> bool
+    requires { kept ≤ 24 }
     ensures { result ≡ every (used_whole events.now) 0 kept }
 {
     let mut whole = true;
-    let mut i: usize = 0;
-    while i < kept {
-        whole = whole & event_whole(slots::event_at(events, i));
-        i += 1;
+    for i in 0..kept {
+        whole &= event_whole(slots::event_at(events, i));
     }
     whole
 }
 
-// Whether n bytes from byte k on are zero. No early exit, so that the loop is compiled to vector instructions.
-fn bytes_zero(l: &[u8], k: usize, n: usize) -> bool
-    requires { k + n ≤ length l.now }
-    ensures { result ≡ every (byte_zero l.now) k n }
+// Whether bytes are zero. No early exit, so that the loop is compiled to vector instructions.
+fn bytes_zero(bytes: &[u8]) -> bool
+    ensures { result ≡ list_all (λ b. eqb b 0) bytes.now }
 {
     let mut clean = true;
-    let mut i: usize = 0;
-    while i < n {
-        clean = clean & (l[k + i] == 0);
-        i += 1;
+    for b in bytes {
+        clean &= *b == 0;
     }
     clean
 }
 
 // Every slot holds an event that is kept or, past them, zero.
-fn slots_whole(events: &[u8], kept: usize) -> bool
-    requires { (length events.now ≡ 200) × (kept ≤ 24) }
+fn slots_whole(events: &[u8; 200], kept: usize) -> bool
+    requires { kept ≤ 24 }
     ensures { result ≡ slots_whole events.now kept }
 {
-    used_whole(events, kept) & bytes_zero(events, 8 * kept, 200 - 8 * kept)
+    used_whole(events, kept) & bytes_zero(&events[8 * kept..])
 }
 
 // An open context has an event; where none is open nothing is used up.
+#[tactic(auto, unfolding(crate::specs::State::marks_whole))]
 fn marks_whole(kept: usize, selected: usize, open: bool) -> bool
     ensures { result ≡ marks_whole kept selected «open» }
 {
@@ -127,27 +127,20 @@ fn marks_whole(kept: usize, selected: usize, open: bool) -> bool
 }
 
 // Where no context is open, the last event is one that a motion replaces.
-fn last_whole(events: &[u8], kept: usize, open: bool) -> bool
-    requires { 8 * kept ≤ length events.now }
+#[tactic(auto, unfolding(crate::specs::State::last_whole))]
+fn last_whole(events: &[u8; 200], kept: usize, open: bool) -> bool
+    requires { kept ≤ 24 }
     ensures { result ≡ last_whole events.now kept «open» }
 {
-    if open {
-        return true;
-    }
-    if kept == 0 {
-        return true;
-    }
-    slots::motion_at(events, kept - 1)
+    open || kept == 0 || slots::motion_at(events, kept - 1)
 }
 
 // Whether every part of a state is in its range. Every state that a call leaves is whole, and so are some that none leaves.
+#[tactic(auto, using(crate::proofs::StateLaws::marks_few), unfolding(crate::specs::State::whole_state))]
 pub fn state_whole(s: State) -> bool
     ensures { result ≡ whole_state s }
 {
-    let kept = s.kept;
-    let open = s.open;
-    if !marks_whole(kept, s.selected, open) {
-        return false;
-    }
-    slots_whole(&s.events, kept) & last_whole(&s.events, kept, open)
+    marks_whole(s.kept, s.selected, s.open)
+        && slots_whole(&s.events, s.kept)
+        && last_whole(&s.events, s.kept, s.open)
 }

@@ -9,6 +9,7 @@ use model::events::Event;
 pub const MOTION: u8 = 6;
 
 // The event in slot j.
+#[tactic(auto, using(crate::proofs::SlotLaws::event_at))]
 pub fn event_at(events: &[u8], j: usize) -> Event
     requires { 8 * j + 8 ≤ length events.now }
     ensures { result ≡ event_in events.now j }
@@ -23,6 +24,7 @@ pub fn event_at(events: &[u8], j: usize) -> Event
 }
 
 // Whether slot j holds a motion event.
+#[tactic(auto, using(crate::proofs::SlotLaws::slot_code))]
 pub fn motion_at(events: &[u8], j: usize) -> bool
     requires { 8 * j + 8 ≤ length events.now }
     ensures { result ≡ is_motion (event_in events.now j).code }
@@ -38,10 +40,6 @@ pub fn put_event(out: &mut [u8], j: usize, x: Event)
     let at = 8 * j;
     out[at] = x.code;
     out[at + 1] = x.detail;
-    out[at + 2] = (x.state % 256) as u8;
-    out[at + 3] = (x.state / 256) as u8;
-    out[at + 4] = (x.time % 256) as u8;
-    out[at + 5] = (x.time / 256 % 256) as u8;
-    out[at + 6] = (x.time / 65536 % 256) as u8;
-    out[at + 7] = (x.time / 16777216) as u8;
+    out[at + 2..at + 4].copy_from_slice(&x.state.to_le_bytes());
+    out[at + 4..at + 8].copy_from_slice(&x.time.to_le_bytes());
 }

@@ -9,13 +9,13 @@ use lib.Dec.{leb, ltb, eqb}
 use lib.ListN.{length}
 use borrow.Author.Tests.{leb-true, ltb-false, eqb-true}
 use Rattle.words.specs.Words.{word_at}
-use Rattle.words.specs.Runs.{total, every}
+use Rattle.words.specs.Runs.{total, every, zero_in}
 use Rattle.words.proofs.Bools.{chain_parts}
 use Rattle.words.proofs.RunLaws.{every_at, total_part}
 use Rattle.tables.specs.Layout.{capacities, production_events_at, production_calls_at, call_parameters_at, table_length}
 use Rattle.header_check.specs.Header.{header_ok}
 use Rattle.table_check.specs.Checks.{sums_ok, entries_ok, checks}
-use Rattle.header_check.specs.Unused.{first_two_rest, last_two_rest, unused_ok}
+use Rattle.header_check.specs.Unused.{keysym_sections, unused_ok}
 use Rattle.event_check.specs.Events.{event_ok}
 use Rattle.keysym_check.specs.Slots.{keysyms_ok, slots_ok}
 use Rattle.span_check.specs.Spans.{call_ok, parameters_ok}
@@ -82,13 +82,13 @@ check_facts l e =
     let h = cond_yes (header_ok l) (cond (sums_ok l) (unused_ok l && slots_ok l (word_at l 5) && entries_ok l) false) a.1 in
     let s = cond_yes (sums_ok l) (unused_ok l && slots_ok l (word_at l 5) && entries_ok l) h.1 in
     let u = chain_parts (unused_ok l) (slots_ok l (word_at l 5) ∷ entries_ok l ∷ []) s.1 in
-    let k = chain_parts (every (keysyms_ok l) 0 (word_at l 5)) (first_two_rest l (word_at l 5) ∷ last_two_rest l (word_at l 5) ∷ []) u.1.0 in
+    let k = chain_parts (every (keysyms_ok l) 0 (word_at l 5)) (zero_in l keysym_sections (word_at l 5) 256 ∷ []) u.1.0 in
     let r = chain_parts (every (event_ok l) 0 (word_at l 5)) (every (call_ok l) 0 (word_at l 6) ∷ every (parameters_ok l) 0 (word_at l 6) ∷ every (production_ok l) 0 (word_at l 4) ∷ leb (total (size_at l) 0 (word_at l 5)) 256 ∷ []) u.1.1.0 in
     record {
       long = ltb-false (length l) table_length a.0;
       header = header_facts l h.0;
       sums = sum_facts l s.0;
-      rests = rest_facts l (header_facts l h.0) u.0 k.1.0 k.1.1.0;
+      rests = rest_facts l (header_facts l h.0) u.0 k.1.0;
       events = λ i q. rw zero-add at (every_at (event_ok l) 0 (word_at l 5) i r.0 q);
       keysyms = λ i q. rw zero-add at (every_at (keysyms_ok l) 0 (word_at l 5) i k.0 q);
       calls = λ i q. call_word_facts l i (rw zero-add at (every_at (call_ok l) 0 (word_at l 6) i r.1.0 q));

@@ -1,15 +1,15 @@
 -- The bytes of a table that fits pass the checks.
-use Prim.Native.Nat.{ℕ, ◌+◌, ◌-◌, ◌%◌, ◌/◌, ◌≤◌, ◌<◌}
+use Prim.Native.Nat.{ℕ, ◌+◌, ◌-◌, ◌≤◌, ◌<◌}
 use native.Mathlib.Omega.{arith}
 use native.Mathlib.Nat.{zero-add, add_assoc}
 use mathlib.Core.Path.{◌≡◌, refl, sym, ap, ◌∙◌}
-use mathlib.Core.List.{List, [], ◌∷◌, ◌++◌}
+use mathlib.Core.List.{List, [], ◌∷◌, ◌++◌, map}
 use mathlib.Core.Bool.{Bool, true, false, not, ◌||◌, false≢true}
 use lib.Dec.{leb, eqb}
-use lib.ListN.{length, get_or, length-append, get_or-eq_default}
+use lib.ListN.{length, get_or, drop, length-append, get_or-eq_default}
 use borrow.Author.Tests.{leb-true, le-leb, le-ltb, eq-eqb, not-true}
-use Rattle.words.specs.Words.{word_at}
-use Rattle.words.specs.Runs.{total, every, is_zero}
+use Rattle.words.specs.Words.{word_at, zeros}
+use Rattle.words.specs.Runs.{total, every, is_zero, zero_between, zero_in}
 use Rattle.words.proofs.Bools.{and_both, chain_all}
 use Rattle.words.proofs.RunLaws.{total_same, total_part, every_all}
 use Rattle.model.specs.Lists.{in_all}
@@ -19,12 +19,15 @@ use Rattle.model.specs.Tables.{Call, Production, Table}
 use Rattle.model.specs.declared.scan.Span.{Span}
 use Rattle.model.specs.declared.events.KeptEvent.{KeptEvent}
 use Rattle.model.specs.declared.events.Directive.{Directive}
-use Rattle.tables.specs.Layout.{flag, flags_word, low_word, high_word, mark_word, directive_word, all_events, all_calls, all_parameters, encode, table_length}
-use Rattle.tables.specs.Layout.{production_events_at, production_calls_at, codes_at, counts_at, sets_at, clears_at, flags_at, lows_at, highs_at, first_lows_at, first_highs_at, second_lows_at, second_highs_at, third_lows_at, third_highs_at, fourth_lows_at, fourth_highs_at, marks_at, name_starts_at, name_lengths_at, call_parameters_at, parameter_starts_at, parameter_lengths_at}
+use Rattle.tables.specs.Layout.{event_fields, call_fields, parameter_fields, flag, directive_word, all_events, all_calls, all_parameters, encode, table_length}
+use Rattle.tables.specs.Layout.{production_events_at, production_calls_at, codes_at, marks_at, call_parameters_at, parameter_starts_at}
 use Rattle.tables.specs.Fitting.{event_in_range, span_in_text, text_length, call_in_range, has_event, fitting}
 use Rattle.header_check.specs.Header.{text_words_ok, count_words_ok, header_ok}
 use Rattle.table_check.specs.Checks.{sums_ok, entries_ok, checks}
-use Rattle.header_check.specs.Unused.{rest_zero, productions_rest, tests_rest, details_rest, first_two_rest, last_two_rest, calls_rest, parameters_rest, unused_ok}
+use Rattle.header_check.specs.Unused.{production_sections, event_sections, keysym_sections, call_sections, parameter_sections, unused_ok}
+use Rattle.header_check.proofs.UnusedFacts.{in_row}
+use Rattle.words.proofs.Zeros.{zero_all, zero_split}
+use Rattle.tables.proofs.Columns.{spread}
 use Rattle.event_check.specs.Events.{event_ok}
 use Rattle.keysym_check.specs.Slots.{keysyms_ok, slots_ok}
 use Rattle.span_check.specs.Spans.{length_of_text, call_words_ok, call_ok, parameter_ok, parameters_ok}
@@ -143,93 +146,48 @@ module _ (t : Table) (fit : fitting t ≡ true) (rest : List ℕ) where
 
   -- ---- Unused words
 
-  rest_zero_lem : {A : Type 0} (at cap : ℕ) (g : A → ℕ) (xs : List A) (d : A) → g d ≡ 0
-      → ((i : ℕ) → i < cap → word_at l (at + i) ≡ g (get_or xs i d)) → rest_zero l at cap (length xs) ≡ true
-  unfolding rest_zero is_zero
-  rest_zero_lem at cap g xs d z e =
-      every_all (is_zero l) (at + length xs) (cap - length xs)
+  section_zero : {A : Type 0} (at c : ℕ) (g : A → ℕ) (xs : List A) (d : A) → g d ≡ 0
+      → ((i : ℕ) → i < c → word_at l (at + i) ≡ g (get_or xs i d)) → zero_between l at (length xs) c ≡ true
+  unfolding zero_between is_zero
+  section_zero at c g xs d z e =
+      every_all (is_zero l) (at + length xs) (c - length xs)
       (λ i h. eq-eqb (word_at l (at + length xs + i)) 0
       (ap (word_at l) (add_assoc at (length xs) i) ∙ e (length xs + i) (omega arith) ∙ ap g (get_or-eq_default xs d (omega arith)) ∙ z))
 
+  -- the sections of some fields of entries
+  row_zero : {A : Type 0} (c : ℕ) (xs : List A) (d : A) (fs : List (A → ℕ)) (s : ℕ) → map (λ (f : A → ℕ). f d) fs ≡ zeros (length fs)
+      → ((i : ℕ) → i < c → spread (word_at l) c (length fs) s i ≡ map (λ (f : A → ℕ). f (get_or xs i d)) fs)
+      → zero_in l (in_row c (length fs) s) (length xs) c ≡ true
+  unfolding zero_in zeros spread
+  row_zero c xs d [] s z e = refl
+  row_zero c xs d (f ∷ fs) s z e =
+      and_both (zero_between l s (length xs) c) (zero_in l (in_row c (length fs) (s + c)) (length xs) c)
+      (section_zero s c f xs d (ap (λ (ws : List ℕ). get_or ws 0 0) z) (λ i h. ap (λ (ws : List ℕ). get_or ws 0 0) (e i h)))
+      (row_zero c xs d fs (s + c) (ap (drop 1) z) (λ i h. ap (drop 1) (e i h)))
+
+  unused_events : (zero_in l event_sections (length es) 256 ≡ true) × (zero_in l keysym_sections (length es) 256 ≡ true)
+  unfolding zeros
+  unused_events =
+      zero_split l event_sections keysym_sections (length es) 256 (row_zero 256 es no_event event_fields codes_at refl (enc.event_words t fit rest))
+
   unused_ok_lem : unused_ok l ≡ true
-  unfolding unused_ok productions_rest tests_rest details_rest calls_rest parameters_rest
+  unfolding unused_ok zeros
   unused_ok_lem =
       rw (enc.productions_word t fit rest, enc.events_word t fit rest, enc.calls_word t fit rest, enc.parameters_word t fit rest)
-      (chain_all (productions_rest l (length ps))
-      (tests_rest l (length es) ∷ details_rest l (length es) ∷ calls_rest l (length cs) ∷ parameters_rest l (length rs) ∷ []) (
-        chain_all (rest_zero l production_events_at 64 (length ps)) (rest_zero l production_calls_at 64 (length ps) ∷ []) (
-          rest_zero_lem production_events_at 64 (λ (p : Production). length p.events) ps no_production refl (enc.production_events_word t fit rest),
-          (rest_zero_lem production_calls_at 64 (λ (p : Production). length p.calls) ps no_production refl (enc.production_calls_word t fit rest), tt),
+      (chain_all (zero_in l production_sections (length ps) 64)
+      (zero_in l event_sections (length es) 256 ∷ zero_in l call_sections (length cs) 128 ∷ zero_in l parameter_sections (length rs) 256 ∷ []) (
+        zero_all l production_sections (length ps) 64 (
+          section_zero production_events_at 64 (λ (p : Production). length p.events) ps no_production refl (enc.production_events_word t fit rest),
+          (section_zero production_calls_at 64 (λ (p : Production). length p.calls) ps no_production refl (enc.production_calls_word t fit rest), tt),
         ),
         (
-          chain_all (rest_zero l codes_at 256 (length es)) (rest_zero l counts_at 256 (length es) ∷ rest_zero l sets_at 256 (length es) ∷ rest_zero l clears_at 256 (length es) ∷ []) (
-            rest_zero_lem codes_at 256 (λ (e : KeptEvent). e.code) es no_event refl (enc.code_word_lem t fit rest),
-            (
-              rest_zero_lem counts_at 256 (λ (e : KeptEvent). e.count) es no_event refl (enc.count_word t fit rest),
-              (
-                rest_zero_lem sets_at 256 (λ (e : KeptEvent). e.set) es no_event refl (enc.set_word t fit rest),
-                (rest_zero_lem clears_at 256 (λ (e : KeptEvent). e.clear) es no_event refl (enc.clear_word t fit rest), tt),
-              ),
-            ),
-          ),
+          unused_events.0,
           (
-            chain_all (rest_zero l flags_at 256 (length es)) (rest_zero l lows_at 256 (length es) ∷ rest_zero l highs_at 256 (length es) ∷ []) (
-              rest_zero_lem flags_at 256 flags_word es no_event refl (enc.flags_word_lem t fit rest),
-              (
-                rest_zero_lem lows_at 256 low_word es no_event refl (enc.low_word_lem t fit rest),
-                (rest_zero_lem highs_at 256 high_word es no_event refl (enc.high_word_lem t fit rest), tt),
-              ),
-            ),
-            (
-              chain_all (rest_zero l marks_at 128 (length cs)) (rest_zero l name_starts_at 128 (length cs) ∷ rest_zero l name_lengths_at 128 (length cs) ∷ rest_zero l call_parameters_at 128 (length cs) ∷ []) (
-                rest_zero_lem marks_at 128 mark_word cs no_call refl (enc.mark_word_lem t fit rest),
-                (
-                  rest_zero_lem name_starts_at 128 (λ (c : Call). c.name.start) cs no_call refl (enc.name_start_word t fit rest),
-                  (
-                    rest_zero_lem name_lengths_at 128 (λ (c : Call). c.name.len) cs no_call refl (enc.name_length_word t fit rest),
-                    (rest_zero_lem call_parameters_at 128 (λ (c : Call). length c.parameters) cs no_call refl (enc.call_parameters_word t fit rest), tt),
-                  ),
-                ),
-              ),
-              (
-                chain_all (rest_zero l parameter_starts_at 256 (length rs)) (rest_zero l parameter_lengths_at 256 (length rs) ∷ []) (
-                  rest_zero_lem parameter_starts_at 256 (λ (s : Span). s.start) rs no_span refl (enc.parameter_start_word t fit rest),
-                  (rest_zero_lem parameter_lengths_at 256 (λ (s : Span). s.len) rs no_span refl (enc.parameter_length_word t fit rest), tt),
-                ),
-                tt,
-              ),
-            ),
+            row_zero 128 cs no_call call_fields marks_at refl (enc.call_words t fit rest),
+            (row_zero 256 rs no_span parameter_fields parameter_starts_at refl (enc.parameter_words t fit rest), tt),
           ),
         ),
       ))
-
-  first_two : first_two_rest l (length es) ≡ true
-  unfolding first_two_rest
-  first_two =
-      chain_all (rest_zero l first_lows_at 256 (length es)) (rest_zero l first_highs_at 256 (length es) ∷ rest_zero l second_lows_at 256 (length es) ∷ rest_zero l second_highs_at 256 (length es) ∷ []) (
-        rest_zero_lem first_lows_at 256 (λ (e : KeptEvent). e.keysyms.first % 65536) es no_event refl (enc.first_low_word t fit rest),
-        (
-          rest_zero_lem first_highs_at 256 (λ (e : KeptEvent). e.keysyms.first / 65536) es no_event refl (enc.first_high_word t fit rest),
-          (
-            rest_zero_lem second_lows_at 256 (λ (e : KeptEvent). e.keysyms.second % 65536) es no_event refl (enc.second_low_word t fit rest),
-            (rest_zero_lem second_highs_at 256 (λ (e : KeptEvent). e.keysyms.second / 65536) es no_event refl (enc.second_high_word t fit rest), tt),
-          ),
-        ),
-      )
-
-  last_two : last_two_rest l (length es) ≡ true
-  unfolding last_two_rest
-  last_two =
-      chain_all (rest_zero l third_lows_at 256 (length es)) (rest_zero l third_highs_at 256 (length es) ∷ rest_zero l fourth_lows_at 256 (length es) ∷ rest_zero l fourth_highs_at 256 (length es) ∷ []) (
-        rest_zero_lem third_lows_at 256 (λ (e : KeptEvent). e.keysyms.third % 65536) es no_event refl (enc.third_low_word t fit rest),
-        (
-          rest_zero_lem third_highs_at 256 (λ (e : KeptEvent). e.keysyms.third / 65536) es no_event refl (enc.third_high_word t fit rest),
-          (
-            rest_zero_lem fourth_lows_at 256 (λ (e : KeptEvent). e.keysyms.fourth % 65536) es no_event refl (enc.fourth_low_word t fit rest),
-            (rest_zero_lem fourth_highs_at 256 (λ (e : KeptEvent). e.keysyms.fourth / 65536) es no_event refl (enc.fourth_high_word t fit rest), tt),
-          ),
-        ),
-      )
 
   -- ---- Entries
 
@@ -262,10 +220,8 @@ module _ (t : Table) (fit : fitting t ≡ true) (rest : List ℕ) where
   unfolding slots_ok
   slots_ok_lem =
       rw (enc.events_word t fit rest)
-      (chain_all (every (keysyms_ok l) 0 (length es)) (first_two_rest l (length es) ∷ last_two_rest l (length es) ∷ []) (
-        every_all (keysyms_ok l) 0 (length es) (λ i h. rw zero-add (keysyms_ok_lem i h)),
-        (first_two, (last_two, tt)),
-      ))
+      (and_both (every (keysyms_ok l) 0 (length es)) (zero_in l keysym_sections (length es) 256)
+      (every_all (keysyms_ok l) 0 (length es) (λ i h. rw zero-add (keysyms_ok_lem i h))) unused_events.1)
 
   call_of_lem : (i : ℕ) → i < length cs → CallFacts t (get_or cs i no_call)
   call_of_lem i h = call_facts t (get_or cs i no_call) (all_at (call_in_range t) cs i no_call (enc.fits t fit rest).calls h)

@@ -9,7 +9,7 @@ use lib.Dec.{leb, eqb}
 use lib.ListN.{length, get_or, take, drop}
 use borrow.Author.Tests.{le-leb, eqb-true}
 use Rattle.words.specs.Words.{word_at, word_bytes, zeros}
-use Rattle.words.specs.Runs.{run, total, every, is_zero}
+use Rattle.words.specs.Runs.{run, total, every, is_zero, zero_between}
 use Rattle.words.proofs.Images.{word_below, bytes_run}
 use Rattle.words.proofs.Laws.{length_zeros, get_d_zeros}
 use Rattle.words.proofs.RunLaws.{total_same, every_at, run_append, run_list, run_same, map_run, length_run}
@@ -23,7 +23,6 @@ use Rattle.tables.specs.Layout.{columns, for_each, event_fields, call_fields, pa
 use Rattle.tables.specs.Layout.{production_events_at, production_calls_at, codes_at, counts_at, sets_at, clears_at, flags_at, lows_at, highs_at, first_lows_at, first_highs_at, second_lows_at, second_highs_at, third_lows_at, third_highs_at, fourth_lows_at, fourth_highs_at, marks_at, call_parameters_at, parameter_starts_at}
 use Rattle.tables.specs.Reading.{directive_from_word, directive_in, merged_in, first_length_in, second_length_in, production_total, parameter_entry, mark_entry, name_entry, call_parameters, first_parameter, call_entry, keysyms_entry, event_entry, production_events, production_calls, first_event, first_call, production_entry, decode}
 use Rattle.tables.specs.Fitting.{event_in_range, span_in_text, call_in_range, texts_in_range, has_event, fitting}
-use Rattle.header_check.specs.Unused.{rest_zero}
 use Rattle.event_check.specs.Events.{event_ok}
 use Rattle.keysym_check.specs.Slots.{keysyms_ok}
 use Rattle.span_check.specs.Spans.{length_of_text, parameter_ok, parameters_ok}
@@ -73,8 +72,8 @@ module _ (l : List ℕ) where
       run_list (word_at l) s n (zeros n) 0 (length_zeros n)
       (λ i h. eqb-true (word_at l (s + i)) 0 (every_at (is_zero l) s n i e h) ∙ sym (get_d_zeros n i))
 
-  padded_run : (at cap n : ℕ) → n ≤ cap → rest_zero l at cap n ≡ true → padded cap (run (word_at l) at n) ≡ run (word_at l) at cap
-  unfolding padded rest_zero
+  padded_run : (at cap n : ℕ) → n ≤ cap → zero_between l at n cap ≡ true → padded cap (run (word_at l) at n) ≡ run (word_at l) at cap
+  unfolding padded zero_between
   padded_run at cap n h e =
       let k : cap ≡ n + (cap - n) = omega arith in
       rw (length_run, ← zero_run (at + n) (cap - n) e) (sym (ap (run (word_at l) at) k ∙ run_append (word_at l) at n (cap - n)))

@@ -10,13 +10,14 @@ ghost use Rattle.table_check.specs.Checks.{sums_ok, entries_ok};
 use tables::places;
 
 // The entries, and that their numbers add up to those of the header.
+#[tactic(auto, using(crate::proofs::Stops::entries_events, crate::proofs::Stops::entries_calls, crate::proofs::Stops::entries_parameters, crate::proofs::Stops::entries_last, sequence_check::proofs::Shortcuts::low_counts, sequence_check::proofs::Shortcuts::counts_ge, span_check::proofs::Shortcuts::low_parameters))]
 fn entries_ok(l: &[u8]) -> bool
     requires { ((table_length ≤ length l.now) × (word_at l.now 1 ≤ 1)) × ((word_at l.now 4 ≤ 64) × (word_at l.now 5 ≤ 256) × (word_at l.now 6 ≤ 128) × (word_at l.now 7 ≤ 256)) }
     ensures { result ≡ (sums_ok l.now && entries_ok l.now) }
 {
-    let productions = words::word_at(l, places::PRODUCTIONS) as usize;
-    let events = words::word_at(l, places::EVENTS) as usize;
-    let calls = words::word_at(l, places::CALLS) as usize;
+    let productions = usize::from(words::word_at(l, places::PRODUCTIONS));
+    let events = usize::from(words::word_at(l, places::EVENTS));
+    let calls = usize::from(words::word_at(l, places::CALLS));
     let parameters = words::word_at(l, places::PARAMETERS);
     let e = event_check::events_tally(l, events);
     if !e.ok {
@@ -29,8 +30,8 @@ fn entries_ok(l: &[u8]) -> bool
     if c.total != parameters {
         return false;
     }
-    span_check::spans_ok(l, calls, parameters as usize)
-        & sequence_check::sequences_ok(l, productions, events, calls, e.counts as usize, e.few)
+    span_check::spans_ok(l, calls, usize::from(parameters))
+        & sequence_check::sequences_ok(l, productions, events, calls, e)
 }
 
 // Whether the bytes are a whole table. What stands past its length plays no part.
@@ -43,6 +44,6 @@ pub fn whole(l: &[u8]) -> bool
     if !header_check::header_ok(l) {
         return false;
     }
-    let events = words::word_at(l, places::EVENTS) as usize;
+    let events = usize::from(words::word_at(l, places::EVENTS));
     header_check::unused_ok(l) & keysym_check::slots_ok(l, events) & entries_ok(l)
 }

@@ -4,7 +4,7 @@ use native.Mathlib.Omega.{arith}
 use mathlib.Core.Path.{◌≡◌, refl, ap}
 use mathlib.Core.List.{List, [], ◌∷◌, ◌++◌, map, append-nil}
 use mathlib.Core.Bool.{Bool, true, false, cond, not, ◌||◌}
-use mathlib.Core.Option.{Option, none, some}
+use Rattle.std.specs.Prelude.{Option, None, Some}
 use lib.Dec.{leb, ltb}
 use lib.ListN.{length, take, drop, length-drop}
 use borrow.Author.Tests.{le-leb, leb-true, leb-false, ltb-false, eqb-true}
@@ -30,7 +30,7 @@ use Rattle.tables.proofs.Lists.{flat_append, all_append}
 use Rattle.tables.proofs.Facts.{facts_fit, facts_text}
 use Rattle.tables.proofs.Positions.{cond_both, Small, small_take, small_drop}
 use Rattle.tables.proofs.CallSpans.{Within, AllWithin, CallWithin, CallsWithin, CallsGood, calls_good}
-use Rattle.tables.proofs.EventsRead.{AllSmall, Some, Good, left_good}
+use Rattle.tables.proofs.EventsRead.{AllSmall, AnyEvent, Good, left_good}
 use Rattle.tables.proofs.JudgedRange.{InRange, judged_range}
 
 -- ---- Events
@@ -99,11 +99,11 @@ abbrev LineGood : ℕ → List Production → LineOutcome → Type 0
 LineGood n before (add p) = ProductionGood n p × (passes_limit (before ++ (p ∷ [])) ≡ false)
 LineGood n before (LineOutcome.refuse k) = Unit
 
-at_least_one : (es : List WrittenEvent) → Some es → 1 ≤ length es
+at_least_one : (es : List WrittenEvent) → AnyEvent es → 1 ≤ length es
 at_least_one [] s = absurd s
 at_least_one (e ∷ es) s = omega arith
 
-judged_good : (n base m : ℕ) (before : List Production) (es : List WrittenEvent) (j : EventsJudged) (cs : List WrittenCall) → Some es → KeptGood es j → CallsWithin m cs → base + m ≤ n
+judged_good : (n base m : ℕ) (before : List Production) (es : List WrittenEvent) (j : EventsJudged) (cs : List WrittenCall) → AnyEvent es → KeptGood es j → CallsWithin m cs → base + m ≤ n
     → LineGood n before (line_judged before base j cs)
 judged_good n base m before es (keep ks) cs s g w h =
     cond_both (LineGood n before) (passes_limit (before ++ (record { events = ks; calls = map (call_of base) cs } ∷ []))) (LineOutcome.refuse 11) (add (record { events = ks; calls = map (call_of base) cs }))
@@ -112,7 +112,7 @@ judged_good n base m before es (keep ks) cs s g w h =
 judged_good n base m before es crowded cs s g w h = tt
 judged_good n base m before es (EventsJudged.refuse k) cs s g w h = tt
 
-calls_line : (n base m : ℕ) (before : List Production) (es : List WrittenEvent) (r : CallsRead) → AllSmall es → Some es → CallsGood m r → base + m ≤ n
+calls_line : (n base m : ℕ) (before : List Production) (es : List WrittenEvent) (r : CallsRead) → AllSmall es → AnyEvent es → CallsGood m r → base + m ≤ n
     → LineGood n before (line_from before base (with_calls es r))
 calls_line n base m before es CallsRead.broken a s g h = tt
 calls_line n base m before es (calls cs) a s g h = judged_good n base m before es (judged_all es) cs s (kept_all_lem es a) g h
@@ -199,8 +199,8 @@ module _ (text : List ℕ) (small : Small text) (short : length text ≤ 8192) w
 
   after_directive_lem : (at : ℕ) (d : Directive) (ps : List Production) (r : Option Directive) (rest : ℕ → Directive → List Production → Outcome) → at ≤ length text → Kept (length text) ps → Next rest
       → Fits (after_directive text at d ps r rest)
-  after_directive_lem at d ps (some e) rest h k f = go_on_lem (line_end text at) e ps rest k f
-  after_directive_lem at d ps none rest h k f =
+  after_directive_lem at d ps (Some e) rest h k f = go_on_lem (line_end text at) e ps rest k f
+  after_directive_lem at d ps None rest h k f =
       cond_both Fits (is_blank_line (line_at text at)) (go_on text (line_end text at) d ps rest) (after_line text at d ps (line_outcome ps at (line_at text at)) rest)
       (λ _. go_on_lem (line_end text at) d ps rest k f)
       (λ _. after_line_lem at d ps (line_outcome ps at (line_at text at)) rest k (line_good (length text) at ps (line_at text at) (line_small at) (line_within at h)) f)
@@ -226,26 +226,26 @@ allowed_small b e =
     (λ q. let h = leb-true b 126 (and_right (leb 32 b) (leb b 126) q) in omega arith))
     (λ p. let h = leb-true b 255 (and_right (leb 160 b) (leb b 255) p) in omega arith)
 
-some_none : {P : Type 0} (i : ℕ) → ◌≡◌ {A = Option ℕ} (some i) none → P
+some_none : {P : Type 0} (i : ℕ) → ◌≡◌ {A = Option ℕ} (Some i) None → P
 some_none i e = let z : ◌≡◌ {A = ℕ} 0 1 = cc in absurd (omega arith)
 
 rest_small : (x : ℕ) (xs : List ℕ) → x < 256 → Small xs → Small (x ∷ xs)
 rest_small x xs h s zero = h
 rest_small x xs h s (suc k) = s k
 
-split : (t : Bool) (x : ℕ) (xs : List ℕ) (i : ℕ) → is_allowed x ≡ t → cond (not (is_allowed x)) (some i) (earliest (λ b. not (is_allowed b)) (suc i) xs) ≡ none
-    → (earliest (λ b. not (is_allowed b)) (suc i) xs ≡ none → Small xs) → Small (x ∷ xs)
+split : (t : Bool) (x : ℕ) (xs : List ℕ) (i : ℕ) → is_allowed x ≡ t → cond (not (is_allowed x)) (Some i) (earliest (λ b. not (is_allowed b)) (suc i) xs) ≡ None
+    → (earliest (λ b. not (is_allowed b)) (suc i) xs ≡ None → Small xs) → Small (x ∷ xs)
 split true x xs i q e f = rest_small x xs (allowed_small x q) (f (rw q at e))
 split false x xs i q e f = some_none i (rw q at e)
 
-none_bad : (l : List ℕ) (i : ℕ) → earliest (λ b. not (is_allowed b)) i l ≡ none → Small l
+none_bad : (l : List ℕ) (i : ℕ) → earliest (λ b. not (is_allowed b)) i l ≡ None → Small l
 none_bad [] i e = λ k. omega arith
 none_bad (x ∷ xs) i e = split (is_allowed x) x xs i refl e (λ q. none_bad xs (suc i) q)
 
 bytes_fit : (text : List ℕ) (r : Option ℕ) → first_bad_byte text ≡ r → length text ≤ 8192 → Fits (after_bytes text r)
 unfolding first_bad_byte lines_of
-bytes_fit text (some p) e h = tt
-bytes_fit text none e h = lines_fit text (none_bad text 0 e) h (length text + 1) 0 Directive.Replace [] (omega arith) (none_kept (length text))
+bytes_fit text (Some p) e h = tt
+bytes_fit text None e h = lines_fit text (none_bad text 0 e) h (length text + 1) 0 Directive.Replace [] (omega arith) (none_kept (length text))
 
 outcome_fits : (text : List ℕ) → Fits (compiled text)
 unfolding compiled

@@ -3,7 +3,7 @@ use Prim.Native.Nat.{ℕ, zero, suc, ◌+◌, ◌-◌, ◌<◌}
 use mathlib.Core.Path.{◌≡◌, sym, ◌∙◌}
 use mathlib.Core.List.{List, [], ◌∷◌, ◌++◌}
 use mathlib.Core.Bool.{Bool, false, cond, false≢true}
-use mathlib.Core.Option.{Option, none, some}
+use Rattle.std.specs.Prelude.{Option, None, Some}
 use lib.Dec.{leb}
 use lib.ListN.{length, drop}
 use Rattle.model.specs.Lists.{bytes, part, any}
@@ -36,9 +36,9 @@ abbrev pub AllSmall : List WrittenEvent → Type 0
 AllSmall [] = Unit
 AllSmall (e ∷ es) = WrittenSmall e × AllSmall es
 
-abbrev pub Some : List WrittenEvent → Type 0
-Some [] = ⊥
-Some (e ∷ es) = Unit
+abbrev pub AnyEvent : List WrittenEvent → Type 0
+AnyEvent [] = ⊥
+AnyEvent (e ∷ es) = Unit
 
 -- events, each small
 abbrev Keys : EventsRead → Type 0
@@ -48,7 +48,7 @@ Keys (events es next) = AllSmall es
 -- and at least one
 abbrev pub Good : EventsRead → Type 0
 Good EventsRead.broken = Unit
-Good (events es next) = AllSmall es × Some es
+Good (events es next) = AllSmall es × AnyEvent es
 
 -- ---- Modifiers
 
@@ -57,8 +57,8 @@ ReadSmall Modifiers.broken = Unit
 ReadSmall (modifiers ms end) = ModifiersSmall ms
 
 abbrev ListSmall : Option ModifierList → Type 0
-ListSmall none = Unit
-ListSmall (some list) = ModifiersSmall (modifiers_of list)
+ListSmall None = Unit
+ListSmall (Some list) = ModifiersSmall (modifiers_of list)
 
 one_small : (m : Modifier) (r : Modifiers) → ModifierSmall m → ReadSmall r → ReadSmall (one_more m r)
 one_small m Modifiers.broken a b = tt
@@ -79,8 +79,8 @@ modifiers_small (suc fuel) l at s = next_small l (modifier_at l at) (λ p. modif
 list_small : (bang colon : Bool) (ms : List Modifier) → ModifiersSmall ms → ListSmall (list_of bang colon ms)
 unfolding list_of
 list_small bang colon ms a =
-    cond_both ListSmall (any is_none_or_any ms) (cond (stands_alone bang colon ms) (some (lone_list ms)) none) (some (listed bang colon ms))
-    (λ _. cond_both ListSmall (stands_alone bang colon ms) (some (lone_list ms)) none
+    cond_both ListSmall (any is_none_or_any ms) (cond (stands_alone bang colon ms) (Some (lone_list ms)) None) (Some (listed bang colon ms))
+    (λ _. cond_both ListSmall (stands_alone bang colon ms) (Some (lone_list ms)) None
     (λ _. cond_both (λ (list : ModifierList). ModifiersSmall (modifiers_of list)) (any (is_named (bytes "None")) ms) no_modifier any_modifier (λ _. tt) (λ _. tt))
     (λ _. tt))
     (λ _. a)
@@ -93,16 +93,16 @@ detail_good l list word count start s m =
 
 count_good : (l : List ℕ) (list : ModifierList) (word : List ℕ) (r : CountRead) → Small l → ModifiersSmall (modifiers_of list) → Good (with_count l list word r)
 count_good l list word CountRead.Broken s m = tt
-count_good l list word (CountRead.Absent next) s m = detail_good l list word none (skip l next) s m
-count_good l list word (CountRead.Digits start end plus next) s m = detail_good l list word (some (record { digits = part l start end; plus = plus })) (skip l next) s m
+count_good l list word (CountRead.Absent next) s m = detail_good l list word None (skip l next) s m
+count_good l list word (CountRead.Digits start end plus next) s m = detail_good l list word (Some (record { digits = part l start end; plus = plus })) (skip l next) s m
 
 type_good : (l : List ℕ) (list : ModifierList) (r : TypeRead) → Small l → ModifiersSmall (modifiers_of list) → Good (with_type l list r)
 type_good l list TypeRead.Broken s m = tt
 type_good l list (TypeRead.Type start end next) s m = count_good l list (part l start end) (count_at l next) s m
 
 list_good : (l : List ℕ) (list : Option ModifierList) (end : ℕ) → Small l → ListSmall list → Good (with_list l list end)
-list_good l none end s m = tt
-list_good l (some list) end s m = type_good l list (type_at l end) s m
+list_good l None end s m = tt
+list_good l (Some list) end s m = type_good l list (type_at l end) s m
 
 modifiers_good_lem : (l : List ℕ) (lead : Lead) (r : Modifiers) → Small l → ReadSmall r → Good (with_modifiers l lead r)
 modifiers_good_lem l lead Modifiers.broken s m = tt
@@ -208,15 +208,15 @@ small_append : (es fs : List WrittenEvent) → AllSmall es → AllSmall fs → A
 small_append [] fs a b = b
 small_append (e ∷ es) fs a b = (a.0, small_append es fs a.1 b)
 
-some_append : (es fs : List WrittenEvent) → Some es → Some (es ++ fs)
+some_append : (es fs : List WrittenEvent) → AnyEvent es → AnyEvent (es ++ fs)
 some_append [] fs h = absurd h
 some_append (e ∷ es) fs h = tt
 
-join_good : (es : List WrittenEvent) (r : EventsRead) → AllSmall es → Some es → Good r → Good (join_events es r)
+join_good : (es : List WrittenEvent) (r : EventsRead) → AllSmall es → AnyEvent es → Good r → Good (join_events es r)
 join_good es EventsRead.broken a b g = tt
 join_good es (events fs next) a b g = (small_append es fs a g.0, some_append es fs b)
 
-after_good : (es : List WrittenEvent) (r : AfterEvent) (rest : ℕ → EventsRead) → AllSmall es → Some es → ((p : ℕ) → Good (rest p)) → Good (after_events es r rest)
+after_good : (es : List WrittenEvent) (r : AfterEvent) (rest : ℕ → EventsRead) → AllSmall es → AnyEvent es → ((p : ℕ) → Good (rest p)) → Good (after_events es r rest)
 after_good es AfterEvent.Broken rest a b f = tt
 after_good es (AfterEvent.Comma next) rest a b f = join_good es (rest next) a b (f next)
 after_good es (AfterEvent.Colon next) rest a b f = (a, b)

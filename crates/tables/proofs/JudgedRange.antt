@@ -4,7 +4,7 @@ use native.Mathlib.Omega.{arith}
 use mathlib.Core.Path.{◌≡◌, refl}
 use mathlib.Core.List.{List, [], ◌∷◌}
 use mathlib.Core.Bool.{Bool, true, false, cond, not, ◌&&◌, ◌||◌}
-use mathlib.Core.Option.{Option, none, some}
+use Rattle.std.specs.Prelude.{Option, None, Some}
 use lib.Dec.{eqb, leb, ltb}
 use lib.ListN.{length, drop}
 use borrow.Author.Tests.{le-leb, leb-true, ltb-false, eqb-true, not-false}
@@ -69,8 +69,8 @@ abbrev Pass : DetailRead → Type 0
 Pass r = read_test r ≡ true
 
 within_pass : (limit : ℕ) (r : Option ℕ) → limit ≤ 0x1FFFFFFF → Pass (within_limit limit r)
-within_pass limit none h = refl
-within_pass limit (some v) h =
+within_pass limit None h = refl
+within_pass limit (Some v) h =
     cond_both Pass (ltb limit v) DetailRead.TooLarge (DetailRead.Value v) (λ _. refl)
     (λ e. let q = ltb-false limit v e in le-leb v 0x1FFFFFFF (omega arith))
 
@@ -189,8 +189,8 @@ or_right true b e = refl
 or_right false b e = e
 
 count_facts : (code : ℕ) (c : Option Count) → count_bad code c ≡ false → CountFacts code (count_value c)
-count_facts code none e = record { low = omega arith; high = omega arith; counted = refl }
-count_facts code (some c) e =
+count_facts code None e = record { low = omega arith; high = omega arith; counted = refl }
+count_facts code (Some c) e =
     let t : takes_count code ≡ true = not-false (takes_count code) (or_no_left (not (takes_count code)) (not (is_one_digit c.digits)) e) in
     let d : is_one_digit c.digits ≡ true = not-false (is_one_digit c.digits) (or_no_right (not (takes_count code)) (not (is_one_digit c.digits)) e) in
     let r : in_range 49 (byte_at c.digits 0) 57 ≡ true = and_right (eqb (length c.digits) 1) (in_range 49 (byte_at c.digits 0) 57) d in

@@ -6,7 +6,7 @@ use Rattle.model.specs.declared.scan.Span.{Span}
 use Rattle.model.specs.declared.events.Keysyms.{Keysyms}
 use Rattle.model.specs.declared.events.KeptEvent.{KeptEvent}
 use Rattle.model.specs.declared.events.Directive.{Directive}
-use Rattle.tables.specs.Layout.{flag, directive_word, flags_word, low_word, high_word, Entries}
+use Rattle.tables.specs.Layout.{flag, directive_word, value_of, flags_word, Entries}
 use Rattle.tables.specs.Layout.{production_events_at, production_calls_at, codes_at, counts_at, sets_at, clears_at, flags_at, lows_at, highs_at, first_lows_at, first_highs_at, second_lows_at, second_highs_at, third_lows_at, third_highs_at, fourth_lows_at, fourth_highs_at, marks_at, name_starts_at, name_lengths_at, call_parameters_at, parameter_starts_at, parameter_lengths_at}
 
 -- ---- In bytes
@@ -15,33 +15,28 @@ unfoldable pub put_test : List ℕ → ℕ → (code count set clear : ℕ) → 
 put_test l i code count set clear =
     put_word (put_word (put_word (put_word l (codes_at + i) code) (counts_at + i) count) (sets_at + i) set) (clears_at + i) clear
 
-unfoldable pub put_detail : List ℕ → ℕ → (flags low high : ℕ) → List ℕ
-put_detail l i flags low high = put_word (put_word (put_word l (flags_at + i) flags) (lows_at + i) low) (highs_at + i) high
+-- a number of 32 bits as two words
+unfoldable pub put_joined : List ℕ → (low high n : ℕ) → List ℕ
+put_joined l low high n = put_word (put_word l low (n % 65536)) high (n / 65536)
 
-unfoldable pub put_first_two : List ℕ → ℕ → (first second : ℕ) → List ℕ
-put_first_two l i first second =
-    put_word
-    (put_word
-    (put_word (put_word l (first_lows_at + i) (first % 65536)) (first_highs_at + i) (first / 65536))
-    (second_lows_at + i) (second % 65536))
-    (second_highs_at + i) (second / 65536)
-
-unfoldable pub put_last_two : List ℕ → ℕ → (third fourth : ℕ) → List ℕ
-put_last_two l i third fourth =
-    put_word
-    (put_word
-    (put_word (put_word l (third_lows_at + i) (third % 65536)) (third_highs_at + i) (third / 65536))
-    (fourth_lows_at + i) (fourth % 65536))
-    (fourth_highs_at + i) (fourth / 65536)
+unfoldable pub put_detail : List ℕ → ℕ → (flags value : ℕ) → List ℕ
+put_detail l i flags value = put_joined (put_word l (flags_at + i) flags) (lows_at + i) (highs_at + i) value
 
 unfoldable pub put_keysyms : List ℕ → ℕ → Keysyms → List ℕ
-put_keysyms l i k = put_last_two (put_first_two l i k.first k.second) i k.third k.fourth
+put_keysyms l i k =
+    put_joined
+    (put_joined
+    (put_joined
+    (put_joined l (first_lows_at + i) (first_highs_at + i) k.first)
+    (second_lows_at + i) (second_highs_at + i) k.second)
+    (third_lows_at + i) (third_highs_at + i) k.third)
+    (fourth_lows_at + i) (fourth_highs_at + i) k.fourth
 
 -- event i
 unfoldable pub put_event : List ℕ → ℕ → KeptEvent → List ℕ
 put_event l i e =
     put_keysyms
-    (put_detail (put_test l i e.code e.count e.set e.clear) i (flags_word e) (low_word e) (high_word e))
+    (put_detail (put_test l i e.code e.count e.set e.clear) i (flags_word e) (value_of e.detail))
     i
     e.keysyms
 

@@ -1,5 +1,8 @@
 // The entries of a table, read by value. Each answer is a definition of specs/Reading on the bytes, whole or not.
+#![tactic(auto, unfolding(crate::specs::Reading::directive_in, crate::specs::Reading::merged_in, crate::specs::Reading::first_length_in, crate::specs::Reading::second_length_in, crate::specs::Reading::production_total, crate::specs::Reading::event_total, crate::specs::Reading::call_total, crate::specs::Reading::parameter_total, crate::specs::Reading::parameter_entry, crate::specs::Reading::mark_entry, crate::specs::Reading::name_entry, crate::specs::Reading::call_parameters, crate::specs::Reading::first_parameter, crate::specs::Reading::keysyms_entry, crate::specs::Reading::event_from_words, crate::specs::Reading::event_entry, crate::specs::Reading::production_events, crate::specs::Reading::production_calls, crate::specs::Reading::first_event, crate::specs::Reading::first_call))]
+
 ghost use Rattle.std.specs.Prelude.{◌≡◌, ◌+◌, ◌*◌, ◌≤◌, ◌<◌, length};
+ghost use Rattle.words.specs.Words.{word_at};
 ghost use Rattle.tables.specs.Reading.{directive_in, merged_in, first_length_in, second_length_in, production_total, event_total, call_total, parameter_total, parameter_entry, mark_entry, name_entry, call_parameters, first_parameter, is_flag, detail_from_word, keysyms_entry, event_from_words, event_entry, production_events, production_calls, first_event, first_call};
 ghost use Rattle.tables.specs.Layout.{table_length};
 
@@ -13,14 +16,11 @@ pub fn directive(l: &[u8]) -> Directive
     requires { table_length ≤ length l.now }
     ensures { result ≡ directive_in l.now }
 {
-    let w = words::word_at(l, places::DIRECTIVE);
-    if w == 1 {
-        return Directive::Override;
+    match words::word_at(l, places::DIRECTIVE) {
+        1 => Directive::Override,
+        2 => Directive::Augment,
+        _ => Directive::Replace,
     }
-    if w == 2 {
-        return Directive::Augment;
-    }
-    Directive::Replace
 }
 
 pub fn merged(l: &[u8]) -> bool
@@ -34,42 +34,42 @@ pub fn first_length(l: &[u8]) -> usize
     requires { table_length ≤ length l.now }
     ensures { result ≡ first_length_in l.now }
 {
-    words::word_at(l, places::FIRST_LENGTH) as usize
+    usize::from(words::word_at(l, places::FIRST_LENGTH))
 }
 
 pub fn second_length(l: &[u8]) -> usize
     requires { table_length ≤ length l.now }
     ensures { result ≡ second_length_in l.now }
 {
-    words::word_at(l, places::SECOND_LENGTH) as usize
+    usize::from(words::word_at(l, places::SECOND_LENGTH))
 }
 
 pub fn production_count(l: &[u8]) -> usize
     requires { table_length ≤ length l.now }
     ensures { result ≡ production_total l.now }
 {
-    words::word_at(l, places::PRODUCTIONS) as usize
+    usize::from(words::word_at(l, places::PRODUCTIONS))
 }
 
 pub fn event_count(l: &[u8]) -> usize
     requires { table_length ≤ length l.now }
     ensures { result ≡ event_total l.now }
 {
-    words::word_at(l, places::EVENTS) as usize
+    usize::from(words::word_at(l, places::EVENTS))
 }
 
 pub fn call_count(l: &[u8]) -> usize
     requires { table_length ≤ length l.now }
     ensures { result ≡ call_total l.now }
 {
-    words::word_at(l, places::CALLS) as usize
+    usize::from(words::word_at(l, places::CALLS))
 }
 
 pub fn parameter_count(l: &[u8]) -> usize
     requires { table_length ≤ length l.now }
     ensures { result ≡ parameter_total l.now }
 {
-    words::word_at(l, places::PARAMETERS) as usize
+    usize::from(words::word_at(l, places::PARAMETERS))
 }
 
 // ---- Productions
@@ -78,14 +78,14 @@ pub fn production_events(l: &[u8], p: usize) -> usize
     requires { (table_length ≤ length l.now) × (p < 64) }
     ensures { result ≡ production_events l.now p }
 {
-    words::word_at(l, places::PRODUCTION_EVENTS + p) as usize
+    usize::from(words::word_at(l, places::PRODUCTION_EVENTS + p))
 }
 
 pub fn production_calls(l: &[u8], p: usize) -> usize
     requires { (table_length ≤ length l.now) × (p < 64) }
     ensures { result ≡ production_calls l.now p }
 {
-    words::word_at(l, places::PRODUCTION_CALLS + p) as usize
+    usize::from(words::word_at(l, places::PRODUCTION_CALLS + p))
 }
 
 // The place of a production's first event among all.
@@ -119,8 +119,8 @@ pub fn call_name(l: &[u8], i: usize) -> Span
     ensures { result ≡ name_entry l.now i }
 {
     Span {
-        start: words::word_at(l, places::NAME_STARTS + i) as usize,
-        len: words::word_at(l, places::NAME_LENGTHS + i) as usize,
+        start: usize::from(words::word_at(l, places::NAME_STARTS + i)),
+        len: usize::from(words::word_at(l, places::NAME_LENGTHS + i)),
     }
 }
 
@@ -128,7 +128,7 @@ pub fn call_parameters(l: &[u8], i: usize) -> usize
     requires { (table_length ≤ length l.now) × (i < 128) }
     ensures { result ≡ call_parameters l.now i }
 {
-    words::word_at(l, places::CALL_PARAMETERS + i) as usize
+    usize::from(words::word_at(l, places::CALL_PARAMETERS + i))
 }
 
 // The place of a call's first parameter among all.
@@ -144,18 +144,33 @@ pub fn parameter_span(l: &[u8], i: usize) -> Span
     ensures { result ≡ parameter_entry l.now i }
 {
     Span {
-        start: words::word_at(l, places::PARAMETER_STARTS + i) as usize,
-        len: words::word_at(l, places::PARAMETER_LENGTHS + i) as usize,
+        start: usize::from(words::word_at(l, places::PARAMETER_STARTS + i)),
+        len: usize::from(words::word_at(l, places::PARAMETER_LENGTHS + i)),
     }
 }
 
 // ---- Events
 
+// Whether a flag is set: 1, 2, 4 or 8.
+pub fn is_flag(value: u16, flags: u16) -> bool
+    requires { 0 < value }
+    ensures { result ≡ is_flag value flags }
+{
+    flags / value % 2 == 1
+}
+
+// A number of two words.
+fn joined(low: u16, high: u16) -> u32
+    ensures { result ≡ low + 65536 * high }
+{
+    u32::from(low) + 65536 * u32::from(high)
+}
+
 fn detail_of(flags: u16, low: u16, high: u16) -> Detail
     ensures { result ≡ detail_from_word (is_flag 4 flags) (low + 65536 * high) }
 {
-    if flags / 4 % 2 == 1 {
-        Detail::Value(low as u32 + 65536 * (high as u32))
+    if is_flag(4, flags) {
+        Detail::Value(joined(low, high))
     } else {
         Detail::Unspecified
     }
@@ -177,20 +192,22 @@ fn event_of(
         code: (code % 256) as u8,
         set,
         clear,
-        colon: flags / 1 % 2 == 1,
-        clause: flags / 2 % 2 == 1,
+        colon: is_flag(1, flags),
+        clause: is_flag(2, flags),
         detail: detail_of(flags, low, high),
         count: (count % 256) as u8,
-        bang: flags / 8 % 2 == 1,
+        bang: is_flag(8, flags),
         names: (flags / 256 % 256) as u8,
         keysyms,
     }
 }
 
-fn joined(low: u16, high: u16) -> u32
-    ensures { result ≡ low + 65536 * high }
+// The number of the two words at these places.
+pub fn joined_at(l: &[u8], low: usize, high: usize) -> u32
+    requires { (2 * low + 2 ≤ length l.now) × (2 * high + 2 ≤ length l.now) }
+    ensures { result ≡ word_at l.now low + 65536 * word_at l.now high }
 {
-    low as u32 + 65536 * (high as u32)
+    joined(words::word_at(l, low), words::word_at(l, high))
 }
 
 // The keysyms after `@` of an event.
@@ -199,22 +216,10 @@ pub fn keysyms_at(l: &[u8], i: usize) -> Keysyms
     ensures { result ≡ keysyms_entry l.now i }
 {
     Keysyms {
-        first: joined(
-            words::word_at(l, places::FIRST_LOWS + i),
-            words::word_at(l, places::FIRST_HIGHS + i),
-        ),
-        second: joined(
-            words::word_at(l, places::SECOND_LOWS + i),
-            words::word_at(l, places::SECOND_HIGHS + i),
-        ),
-        third: joined(
-            words::word_at(l, places::THIRD_LOWS + i),
-            words::word_at(l, places::THIRD_HIGHS + i),
-        ),
-        fourth: joined(
-            words::word_at(l, places::FOURTH_LOWS + i),
-            words::word_at(l, places::FOURTH_HIGHS + i),
-        ),
+        first: joined_at(l, places::FIRST_LOWS + i, places::FIRST_HIGHS + i),
+        second: joined_at(l, places::SECOND_LOWS + i, places::SECOND_HIGHS + i),
+        third: joined_at(l, places::THIRD_LOWS + i, places::THIRD_HIGHS + i),
+        fourth: joined_at(l, places::FOURTH_LOWS + i, places::FOURTH_HIGHS + i),
     }
 }
 

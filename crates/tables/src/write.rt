@@ -1,8 +1,10 @@
 // Entries written into lent bytes, one a call. proofs/Written says what that does to the entries that the bytes hold.
+#![tactic(auto, unfolding(crate::specs::Writing::put_test, crate::specs::Writing::put_detail, crate::specs::Writing::put_joined, crate::specs::Writing::put_keysyms, crate::specs::Writing::put_event, crate::specs::Writing::put_call, crate::specs::Writing::put_parameter, crate::specs::Writing::put_production, crate::specs::Writing::put_texts, crate::specs::Writing::put_counts))]
+
 ghost use Rattle.std.specs.Prelude.{◌≡◌, ◌+◌, ◌*◌, ◌≤◌, ◌<◌, length};
 ghost use Rattle.words.specs.Words.{cleared};
 ghost use Rattle.tables.specs.Layout.{flag, is_given, value_of, directive_word, table_length};
-ghost use Rattle.tables.specs.Writing.{put_test, put_detail, put_first_two, put_last_two, put_keysyms, put_event, put_call, put_parameter, put_production, put_texts, put_counts};
+ghost use Rattle.tables.specs.Writing.{put_test, put_detail, put_joined, put_keysyms, put_event, put_call, put_parameter, put_production, put_texts, put_counts};
 
 use crate::places;
 use model::events::{Detail, Directive, KeptEvent, Keysyms};
@@ -27,10 +29,7 @@ fn flag_word(value: u16, is: bool) -> u16
 fn is_given(d: Detail) -> bool
     ensures { result ≡ is_given d }
 {
-    match d {
-        Detail::Unspecified => false,
-        Detail::Value(_) => true,
-    }
+    matches!(d, Detail::Value(_))
 }
 
 fn value_of(d: Detail) -> u32
@@ -52,69 +51,78 @@ fn put_test(out: &mut [u8], i: usize, code: u16, count: u16, set: u16, clear: u1
     words::put_word(out, places::CLEARS + i, clear);
 }
 
-fn put_detail(out: &mut [u8], i: usize, flags: u16, low: u16, high: u16)
+// A number of 32 bits as two words.
+fn put_joined(out: &mut [u8], low: usize, high: usize, n: u32)
+    requires { (2 * low + 2 ≤ length out.old) × (2 * high + 2 ≤ length out.old) }
+    ensures { out.new ≡ put_joined out.old low high n }
+{
+    words::put_word(out, low, (n % 65536) as u16);
+    words::put_word(out, high, (n / 65536) as u16);
+}
+
+fn put_detail(out: &mut [u8], i: usize, flags: u16, value: u32)
     requires { (table_length ≤ length out.old) × (i < 256) }
-    ensures { out.new ≡ put_detail out.old i flags low high }
+    ensures { out.new ≡ put_detail out.old i flags value }
 {
     words::put_word(out, places::FLAGS + i, flags);
-    words::put_word(out, places::LOWS + i, low);
-    words::put_word(out, places::HIGHS + i, high);
+    put_joined(out, places::LOWS + i, places::HIGHS + i, value);
 }
 
 fn flags_of(colon: bool, clause: bool, given: bool, bang: bool, names: u8) -> u16
     ensures { result ≡ flag 1 colon + flag 2 clause + flag 4 given + flag 8 bang + 256 * names }
 {
-    let low = flag_word(1, colon) + flag_word(2, clause) + flag_word(4, given) + flag_word(8, bang);
-    low + 256 * (names as u16)
-}
-
-fn put_first_two(out: &mut [u8], i: usize, first: u32, second: u32)
-    requires { (table_length ≤ length out.old) × (i < 256) }
-    ensures { out.new ≡ put_first_two out.old i first second }
-{
-    words::put_word(out, places::FIRST_LOWS + i, (first % 65536) as u16);
-    words::put_word(out, places::FIRST_HIGHS + i, (first / 65536) as u16);
-    words::put_word(out, places::SECOND_LOWS + i, (second % 65536) as u16);
-    words::put_word(out, places::SECOND_HIGHS + i, (second / 65536) as u16);
-}
-
-fn put_last_two(out: &mut [u8], i: usize, third: u32, fourth: u32)
-    requires { (table_length ≤ length out.old) × (i < 256) }
-    ensures { out.new ≡ put_last_two out.old i third fourth }
-{
-    words::put_word(out, places::THIRD_LOWS + i, (third % 65536) as u16);
-    words::put_word(out, places::THIRD_HIGHS + i, (third / 65536) as u16);
-    words::put_word(out, places::FOURTH_LOWS + i, (fourth % 65536) as u16);
-    words::put_word(out, places::FOURTH_HIGHS + i, (fourth / 65536) as u16);
+    flag_word(1, colon)
+        + flag_word(2, clause)
+        + flag_word(4, given)
+        + flag_word(8, bang)
+        + 256 * u16::from(names)
 }
 
 fn put_keysyms(out: &mut [u8], i: usize, k: Keysyms)
     requires { (table_length ≤ length out.old) × (i < 256) }
     ensures { out.new ≡ put_keysyms out.old i k }
 {
-    put_first_two(out, i, k.first, k.second);
-    put_last_two(out, i, k.third, k.fourth);
+    put_joined(
+        out,
+        places::FIRST_LOWS + i,
+        places::FIRST_HIGHS + i,
+        k.first,
+    );
+    put_joined(
+        out,
+        places::SECOND_LOWS + i,
+        places::SECOND_HIGHS + i,
+        k.second,
+    );
+    put_joined(
+        out,
+        places::THIRD_LOWS + i,
+        places::THIRD_HIGHS + i,
+        k.third,
+    );
+    put_joined(
+        out,
+        places::FOURTH_LOWS + i,
+        places::FOURTH_HIGHS + i,
+        k.fourth,
+    );
 }
 
 pub fn put_event(out: &mut [u8], i: usize, e: KeptEvent)
     requires { (table_length ≤ length out.old) × (i < 256) }
     ensures { out.new ≡ put_event out.old i e }
 {
-    let code = e.code;
-    let count = e.count;
-    let d = e.detail;
-    let k = e.keysyms;
-    let flags = flags_of(e.colon, e.clause, is_given(d), e.bang, e.names);
-    let value = value_of(d);
-    put_test(out, i, code as u16, count as u16, e.set, e.clear);
-    put_detail(
+    let flags = flags_of(e.colon, e.clause, is_given(e.detail), e.bang, e.names);
+    put_test(
         out,
         i,
-        flags,
-        (value % 65536) as u16,
-        (value / 65536) as u16,
+        u16::from(e.code),
+        u16::from(e.count),
+        e.set,
+        e.clear,
     );
-    put_keysyms(out, i, k);
+    put_detail(out, i, flags, value_of(e.detail));
+    put_keysyms(out, i, e.keysyms);
 }
 
 // ---- Calls and parameters
@@ -123,11 +131,9 @@ pub fn put_call(out: &mut [u8], i: usize, second: bool, name: Span, parameters: 
     requires { ((table_length ≤ length out.old) × (i < 128)) × ((name.start < 65536) × (name.len < 65536) × (parameters < 65536)) }
     ensures { out.new ≡ put_call out.old i second name parameters }
 {
-    let start = name.start;
-    let len = name.len;
     words::put_word(out, places::MARKS + i, flag_word(1, second));
-    words::put_word(out, places::NAME_STARTS + i, start as u16);
-    words::put_word(out, places::NAME_LENGTHS + i, len as u16);
+    words::put_word(out, places::NAME_STARTS + i, name.start as u16);
+    words::put_word(out, places::NAME_LENGTHS + i, name.len as u16);
     words::put_word(out, places::CALL_PARAMETERS + i, parameters as u16);
 }
 
@@ -135,10 +141,8 @@ pub fn put_parameter(out: &mut [u8], i: usize, s: Span)
     requires { ((table_length ≤ length out.old) × (i < 256)) × ((s.start < 65536) × (s.len < 65536)) }
     ensures { out.new ≡ put_parameter out.old i s }
 {
-    let start = s.start;
-    let len = s.len;
-    words::put_word(out, places::PARAMETER_STARTS + i, start as u16);
-    words::put_word(out, places::PARAMETER_LENGTHS + i, len as u16);
+    words::put_word(out, places::PARAMETER_STARTS + i, s.start as u16);
+    words::put_word(out, places::PARAMETER_LENGTHS + i, s.len as u16);
 }
 
 // ---- Productions
@@ -154,6 +158,7 @@ pub fn put_production(out: &mut [u8], p: usize, events: usize, calls: usize)
 
 // ---- The header
 
+// Not `From`, since both types are of other crates.
 fn directive_word(d: Directive) -> u16
     ensures { result ≡ directive_word d }
 {

@@ -1,16 +1,19 @@
--- The tally of a merge, for each directive of the new table.
+-- What a merge keeps, for each directive of the new table: how many there are, that there is room for them, and the bytes.
 use Prim.Native.Nat.{ℕ, ◌≤◌}
 use native.Mathlib.Omega.{arith}
-use mathlib.Core.Path.{◌≡◌}
-use mathlib.Core.Bool.{true}
-use mathlib.Core.List.{List}
+use mathlib.Core.Path.{◌≡◌, refl}
+use mathlib.Core.Bool.{Bool, true, false}
+use mathlib.Core.List.{List, [], ◌∷◌, ◌++◌}
+use Rattle.model.specs.Tables.{Production}
 use Rattle.model.specs.declared.events.Directive.{Directive}
 use Rattle.tables.specs.Reading.{production_total, directive_in}
 use Rattle.tables.specs.Whole.{whole}
-use Rattle.tally.specs.Kept.{kept_from}
-use Rattle.tally.specs.Counting.{no_tally, tally_all, tally_by, tally_merged, TallyBelow}
+use Rattle.tally.specs.Kept.{marked, kept_from, kept_by}
+use Rattle.tally.specs.Counting.{no_tally, tally_one, tally_all, tally_by, tally_merged, put_kept, TallyBelow}
 use Rattle.tally.specs.declared.count.Tally.{Tally}
-use Rattle.tally.proofs.Tallies.{kept_below}
+use Rattle.tally.proofs.Tallies.{kept_below, all_fewer}
+
+-- ---- No count is large
 
 below_more : (a b : ℕ) (t : Tally) → a ≤ b → TallyBelow a t → TallyBelow b t
 below_more a b t h r =
@@ -25,29 +28,66 @@ below_more a b t h r =
 none_below : TallyBelow 0 no_tally
 none_below = record { productions = omega arith; events = omega arith; expanded = omega arith; calls = omega arith; parameters = omega arith }
 
--- ---- No count is large
+pub merged_below : (old new : List ℕ) → whole old ≡ true → whole new ≡ true → TallyBelow 10000 (tally_merged old new)
+unfolding tally_merged tally_by
+merged_below old new w v = by (directive_in new)
+  where
+    first : (l other : List ℕ) → whole l ≡ true → TallyBelow 256 (tally_all no_tally (kept_from l 0 other 0))
+    first l other u = kept_below l u other 0 0 no_tally none_below
 
-module _ (l : List ℕ) (w : whole l ≡ true) (other : List ℕ) (n : ℕ) where
-  pub first_below : TallyBelow 10000 (tally_all no_tally (kept_from l 0 other n))
-  first_below = below_more 256 10000 (tally_all no_tally (kept_from l 0 other n)) (omega arith) (kept_below l w other n 0 no_tally none_below)
+    both : (l m : List ℕ) → whole l ≡ true → whole m ≡ true
+        → TallyBelow 10000 (tally_all (tally_all no_tally (kept_from l 0 m 0)) (kept_from m 0 l (production_total l)))
+    both l m u x = below_more 512 10000 _ (omega arith) (kept_below m x l (production_total l) 256 (tally_all no_tally (kept_from l 0 m 0)) (first l m u))
 
-  pub second_below : (m : List ℕ) → whole m ≡ true → (o : List ℕ) (k : ℕ)
-      → TallyBelow 10000 (tally_all (tally_all no_tally (kept_from l 0 other n)) (kept_from m 0 o k))
-  second_below m v o k =
-      below_more 512 10000 (tally_all (tally_all no_tally (kept_from l 0 other n)) (kept_from m 0 o k)) (omega arith)
-      (kept_below m v o k 256 (tally_all no_tally (kept_from l 0 other n)) (kept_below l w other n 0 no_tally none_below))
+    by : (d : Directive) → TallyBelow 10000 (tally_by d old new)
+    by Directive.Replace = below_more 256 10000 _ (omega arith) (first new old v)
+    by Directive.Override = both new old v w
+    by Directive.Augment = both old new w v
 
-module _ (old new : List ℕ) where
-  pub replace_tally : directive_in new ≡ Directive.Replace → tally_merged old new ≡ tally_all no_tally (kept_from new 0 old 0)
+-- ---- By the directive
+
+module _ (old new : List ℕ) (Fits : Tally → Type 0) (fewer : (t : Tally) (p : Production) → Fits (tally_one t p) → Fits t) (fits : Fits (tally_merged old new)) where
+  pub replace_fits : directive_in new ≡ Directive.Replace → Fits (tally_all no_tally (kept_from new 0 old 0))
   unfolding tally_merged tally_by
-  replace_tally e = rw e
+  replace_fits e = rw e at fits
 
-  pub override_tally : directive_in new ≡ Directive.Override
-      → tally_merged old new ≡ tally_all (tally_all no_tally (kept_from new 0 old 0)) (kept_from old 0 new (production_total new))
+  pub override_fits : directive_in new ≡ Directive.Override
+      → Fits (tally_all (tally_all no_tally (kept_from new 0 old 0)) (kept_from old 0 new (production_total new)))
   unfolding tally_merged tally_by
-  override_tally e = rw e
+  override_fits e = rw e at fits
 
-  pub augment_tally : directive_in new ≡ Directive.Augment
-      → tally_merged old new ≡ tally_all (tally_all no_tally (kept_from old 0 new 0)) (kept_from new 0 old (production_total old))
+  pub augment_fits : directive_in new ≡ Directive.Augment
+      → Fits (tally_all (tally_all no_tally (kept_from old 0 new 0)) (kept_from new 0 old (production_total old)))
   unfolding tally_merged tally_by
-  augment_tally e = rw e
+  augment_fits e = rw e at fits
+
+  pub first_fits : (t : Tally) (ps : List Production) → Fits (tally_all t ps) → Fits t
+  first_fits t ps f = all_fewer Fits fewer t ps f
+
+module _ (put : Bool → List ℕ → Tally → Production → List ℕ) where
+  put_more : (s : Bool) (l : List ℕ) (t : Tally) (ps : List Production) (ks : List (Bool × Production))
+      → put_kept put l t (marked s ps ++ ks) ≡ put_kept put (put_kept put l t (marked s ps)) (tally_all t ps) ks
+  unfolding put_kept tally_all
+  put_more s l t [] ks = refl
+  put_more s l t (p ∷ ps) ks = put_more s (put s l t p) (tally_one t p) ps ks
+
+  module _ (old new out : List ℕ) where
+    pub replace_kept : directive_in new ≡ Directive.Replace
+        → (tally_merged old new ≡ tally_all no_tally (kept_from new 0 old 0))
+        × (put_kept put out no_tally (kept_by (directive_in new) old new) ≡ put_kept put out no_tally (marked true (kept_from new 0 old 0)))
+    unfolding tally_merged tally_by kept_by
+    replace_kept e = (rw e, rw e)
+
+    pub override_kept : directive_in new ≡ Directive.Override
+        → (tally_merged old new ≡ tally_all (tally_all no_tally (kept_from new 0 old 0)) (kept_from old 0 new (production_total new)))
+        × (put_kept put out no_tally (kept_by (directive_in new) old new)
+        ≡ put_kept put (put_kept put out no_tally (marked true (kept_from new 0 old 0))) (tally_all no_tally (kept_from new 0 old 0)) (marked false (kept_from old 0 new (production_total new))))
+    unfolding tally_merged tally_by kept_by
+    override_kept e = (rw e, rw e (put_more true out no_tally (kept_from new 0 old 0) _))
+
+    pub augment_kept : directive_in new ≡ Directive.Augment
+        → (tally_merged old new ≡ tally_all (tally_all no_tally (kept_from old 0 new 0)) (kept_from new 0 old (production_total old)))
+        × (put_kept put out no_tally (kept_by (directive_in new) old new)
+        ≡ put_kept put (put_kept put out no_tally (marked false (kept_from old 0 new 0))) (tally_all no_tally (kept_from old 0 new 0)) (marked true (kept_from new 0 old (production_total old))))
+    unfolding tally_merged tally_by kept_by
+    augment_kept e = (rw e, rw e (put_more false out no_tally (kept_from old 0 new 0) _))

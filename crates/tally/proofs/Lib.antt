@@ -3,5 +3,6 @@ pub mod WholeFacts
 pub mod Tallies
 pub mod ElementSizes
 pub mod Extents
-pub mod TallySteps
+pub mod KeptSteps
 pub mod Directives
+pub mod Equality

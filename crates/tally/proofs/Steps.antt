@@ -1,10 +1,12 @@
 -- The loops' next steps: what is left of a run, of two lists of events, and of the productions that are kept.
-use Prim.Native.Nat.{ℕ, suc, ◌+◌, ◌-◌, ◌≤◌, ◌<◌}
+use Prim.Native.Nat.{ℕ, zero, suc, ◌+◌, ◌-◌, ◌≤◌, ◌<◌}
 use native.Mathlib.Omega.{arith}
+use native.Mathlib.Nat.{add-zero}
 use mathlib.Core.Path.{◌≡◌, refl, ap, ◌∙◌}
 use mathlib.Core.List.{List, [], ◌∷◌, ◌++◌}
 use mathlib.Core.Bool.{Bool, true, false, cond, not, ◌&&◌, ◌||◌}
 use lib.ListN.{length}
+use Rattle.std.specs.List.{list_all, range_with_len}
 use Rattle.words.specs.Runs.{run}
 use Rattle.model.specs.Tables.{Production}
 use Rattle.model.specs.Counts.{elements_of, expanded}
@@ -36,30 +38,21 @@ module _ {A : Type 0} (f : ℕ → A) where
       let g : s + (i + 1) ≡ suc (s + i) = omega arith in
       rw (e, g)
 
-  pub run_start : (s n : ℕ) → run f (s + 0) (n - 0) ≡ run f s n
-  run_start s n =
-      let e : n - 0 ≡ n = omega arith in
-      let g : s + 0 ≡ s = omega arith in
-      rw (e, g)
-
 -- ---- Events
 
-module _ (f g : ℕ → KeptEvent) (a b n i : ℕ) where
-  pub same_next : i < n
-      → same_events (run f (a + i) (n - i)) (run g (b + i) (n - i))
-      ≡ (same_event (f (a + i)) (g (b + i)) && same_events (run f (a + (i + 1)) (n - (i + 1))) (run g (b + (i + 1)) (n - (i + 1))))
-  unfolding same_events
-  same_next h = rw (run_step f a n i h, run_step g b n i h)
+-- what a test of each place says of two runs
+same_at : (f g : ℕ → KeptEvent) (a b s n : ℕ)
+    → list_all (λ i. same_event (f (a + i)) (g (b + i))) (range_with_len s n) ≡ same_events (run f (a + s) n) (run g (b + s) n)
+unfolding run same_events
+same_at f g a b s zero = refl
+same_at f g a b s (suc n) =
+    let j : a + (s + 1) ≡ suc (a + s) = omega arith in
+    let k : b + (s + 1) ≡ suc (b + s) = omega arith in
+    rw (same_at f g a b (s + 1) n, j, k)
 
-  pub same_done : n ≤ i → same_events (run f (a + i) (n - i)) (run g (b + i) (n - i)) ≡ true
-  unfolding same_events
-  same_done h = rw (run_done f (a + i) n i h, run_done g (b + i) n i h)
-
-pub and_no : (a b : Bool) → a ≡ false → (a && b) ≡ false
-and_no a b e = rw e
-
-pub and_yes : (a b : Bool) → a ≡ true → (a && b) ≡ b
-and_yes a b e = rw e
+pub same_all : (f g : ℕ → KeptEvent) (a b n : ℕ)
+    → list_all (λ i. same_event (f (a + i)) (g (b + i))) (range_with_len 0 n) ≡ same_events (run f a n) (run g b n)
+same_all f g a b n = simp add-zero at (same_at f g a b 0 n)
 
 and_false : (a : Bool) → (a && false) ≡ false
 and_false true = refl

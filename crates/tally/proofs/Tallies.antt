@@ -17,41 +17,27 @@ use Rattle.tables.proofs.Facts.{LimitFacts, events_in_all_lem}
 use Rattle.tally.specs.Kept.{first_of, rest_of, kept_from, marked_call, from_text}
 use Rattle.tally.specs.Counting.{no_tally, tally_one, tally_all, TallyBelow, TallyRoom}
 use Rattle.tally.specs.declared.count.Tally.{Tally}
+pub use Rattle.tally.specs.Laws.{one_below, one_room}
 use Rattle.tally.proofs.WholeFacts as facts
+
+-- what `Tally::default()` gives
+pub none_is : (t : Tally)
+    → (t.productions ≡ 0) × ((t.events ≡ 0) × ((t.expanded ≡ 0) × ((t.calls ≡ 0) × (t.parameters ≡ 0)))) → t ≡ no_tally
+none_is t z =
+    let e : ◌≡◌ {A = Tally} (record { productions = t.productions; events = t.events; expanded = t.expanded; calls = t.calls; parameters = t.parameters }) no_tally =
+    rw (z.0, z.1.0, z.1.1.0, z.1.1.1.0, z.1.1.1.1) in
+    e
 
 -- ---- Counts only grow
 
-one_below : (b : ℕ) (t : Tally) (p : Production) → TallyBelow b (tally_one t p) → TallyBelow b t
-unfolding tally_one
-one_below b t p r =
-    record {
-      productions = omega (arith, r.productions);
-      events = omega (arith, r.events);
-      expanded = omega (arith, r.expanded);
-      calls = omega (arith, r.calls);
-      parameters = omega (arith, r.parameters);
-    }
-
-pub all_below : (b : ℕ) (t : Tally) (ps : List Production) → TallyBelow b (tally_all t ps) → TallyBelow b t
+pub all_fewer : (Fits : Tally → Type 0) → ((t : Tally) (p : Production) → Fits (tally_one t p) → Fits t)
+    → (t : Tally) (ps : List Production) → Fits (tally_all t ps) → Fits t
 unfolding tally_all
-all_below b t [] r = r
-all_below b t (p ∷ ps) r = one_below b t p (all_below b (tally_one t p) ps r)
-
-pub one_room : (t : Tally) (p : Production) → TallyRoom (tally_one t p) → TallyRoom t
-unfolding tally_one
-one_room t p r =
-    record {
-      productions = omega (arith, r.productions);
-      events = omega (arith, r.events);
-      expanded = omega (arith, r.expanded);
-      calls = omega (arith, r.calls);
-      parameters = omega (arith, r.parameters);
-    }
+all_fewer Fits fewer t [] f = f
+all_fewer Fits fewer t (p ∷ ps) f = fewer t p (all_fewer Fits fewer (tally_one t p) ps f)
 
 pub all_room : (t : Tally) (ps : List Production) → TallyRoom (tally_all t ps) → TallyRoom t
-unfolding tally_all
-all_room t [] r = r
-all_room t (p ∷ ps) r = one_room t p (all_room (tally_one t p) ps r)
+all_room t ps r = all_fewer (λ (u : Tally). TallyRoom u) one_room t ps r
 
 pub first_room : (t : Tally) (p : Production) (ps : List Production) → TallyRoom (tally_all t (p ∷ ps)) → TallyRoom (tally_one t p)
 unfolding tally_all

@@ -39,6 +39,13 @@ text_below mark first second a b = go (eqb mark 1)
     go true = b
     go false = a
 
+-- no index into a whole table is large
+pub record Bounds (l : List ℕ) : Type 0 where
+  pub long : table_length ≤ length l
+  pub productions : production_total l ≤ 64
+  pub calls : call_total l ≤ 128
+  pub parameters : parameter_total l ≤ 256
+
 module _ (l : List ℕ) (w : whole l ≡ true) where
   pub checked : CheckFacts l
   checked = whole_facts l w
@@ -84,6 +91,9 @@ module _ (l : List ℕ) (w : whole l ≡ true) where
   pub parameters_in : (i : ℕ) → i ≤ call_total l → first_parameter l i ≤ parameter_total l
   unfolding call_total first_parameter parameter_total
   parameters_in i h = omega (arith, total_mono (word_at l) call_parameters_at i (word_at l 6) h, checked.sums.parameters)
+
+  pub bounds : Bounds l
+  bounds = record { long = long; productions = few_productions; calls = few_calls; parameters = few_parameters }
 
   -- ---- Words
 

@@ -50,6 +50,12 @@ tally_by Directive.Augment old new =
 unfoldable pub tally_merged : (old new : List ℕ) → Tally
 tally_merged old new = tally_by (directive_in new) old new
 
+module _ (put : Bool → List ℕ → Tally → Production → List ℕ) where
+  -- bytes with each production put after those before it
+  unfoldable pub put_kept : List ℕ → Tally → List (Bool × Production) → List ℕ
+  put_kept l t [] = l
+  put_kept l t (k ∷ ks) = put_kept (put k.0 l t k.1) (tally_one t k.1) ks
+
 -- a limit in all is passed
 unfoldable pub tally_passes : Tally → Bool
 tally_passes t = ltb 64 t.productions || ltb 256 t.expanded || ltb 128 t.calls || ltb 256 t.parameters

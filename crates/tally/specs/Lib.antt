@@ -1,2 +1,3 @@
 pub mod Kept
 pub mod Counting
+pub mod Laws

@@ -1,20 +1,19 @@
 // How many productions, events, calls and parameters a merge would have.
-ghost use Rattle.std.specs.Prelude.{◌≡◌, true, cond, ◌+◌, ◌≤◌, ◌<◌, length};
+ghost use Rattle.std.specs.Prelude.{◌≡◌, true, ◌+◌, ◌≤◌, ◌<◌, length};
 ghost use Rattle.words.specs.Runs.{run};
 ghost use Rattle.model.specs.Lists.{all};
 ghost use Rattle.model.specs.Counts.{expanded};
 ghost use Rattle.tables.specs.Fitting.{event_in_range};
 ghost use Rattle.tables.specs.Reading.{production_total, event_entry, production_entry};
 ghost use Rattle.tables.specs.Whole.{whole};
-ghost use Rattle.tally.specs.Kept.{kept_from};
-ghost use Rattle.tally.specs.Counting.{extent_at, tally_one, tally_all, tally_merged, tally_passes, TallyBelow};
+ghost use Rattle.tally.specs.Counting.{extent_at, tally_one, tally_merged, tally_passes, TallyBelow};
 ghost use Rattle.tables.specs.Layout.{table_length};
+ghost use Rattle.tally.specs.Laws.{one_below};
 
-use crate::compare::is_among;
-use model::events::Directive;
+use crate::kept::{Step, take_merged};
 
 // How many there are.
-#[derive(Clone, Copy)]
+#[derive(Clone, Copy, Default)]
 pub struct Tally {
     pub productions: usize,
     pub events: usize,
@@ -59,11 +58,9 @@ fn expanded_of(l: &[u8], from: usize, n: usize) -> usize
     ensures { result ≡ length (expanded (run (event_entry l.now) from n)) }
 {
     let mut s: usize = 0;
-    let mut i: usize = 0;
-    while i < n {
+    for i in 0..n {
         let e = tables::read::event_at(l, from + i);
         s += counts::element_count(e.code, e.count);
-        i += 1;
     }
     s
 }
@@ -85,30 +82,19 @@ pub fn tally_one(l: &[u8], p: usize, t: Tally) -> Tally
     }
 }
 
-fn tally_if(keep: bool, l: &[u8], p: usize, t: Tally) -> Tally
-    requires { (whole l.now ≡ true) × (p < production_total l.now) × TallyBelow 10000 t }
-    ensures { result ≡ cond keep (tally_one t (production_entry l.now p)) t }
-{
-    if !keep {
-        return t;
-    }
-    tally_one(l, p, t)
-}
+// The count of what a merge keeps.
+struct Counting;
 
-// The productions of `l` whose events equal none of the first n of `other`, counted after others.
-fn tally_kept(l: &[u8], other: &[u8], n: usize, before: Tally) -> Tally
-    requires { (whole l.now ≡ true) × ((whole other.now ≡ true) × (n ≤ production_total other.now)) × TallyBelow 10000 (tally_all before (kept_from l.now 0 other.now n)) }
-    ensures { result ≡ tally_all before (kept_from l.now 0 other.now n) }
-{
-    let m = tables::read::production_count(l);
-    let mut t = before;
-    let mut p: usize = 0;
-    while p < m {
-        let among = is_among(l, p, other, n);
-        t = tally_if(!among, l, p, t);
-        p += 1;
+impl Step for Counting {
+    ghost put = { λ second l t p. l };
+
+    ghost Fits = { λ n t. TallyBelow 10000 t };
+
+    fn step(l: &[u8], p: usize, _second: bool, _out: &mut [u8], t: Tally) -> Tally {
+        tally_one(l, p, t)
     }
-    t
+
+    ghost fewer = { λ n t p. one_below 10000 t p };
 }
 
 // The productions of a merge, by the new table's directive.
@@ -116,26 +102,7 @@ pub fn tally_merged(old: &[u8], new: &[u8]) -> Tally
     requires { (whole old.now ≡ true) × (whole new.now ≡ true) }
     ensures { result ≡ tally_merged old.now new.now }
 {
-    let none = Tally {
-        productions: 0,
-        events: 0,
-        expanded: 0,
-        calls: 0,
-        parameters: 0,
-    };
-    match tables::read::directive(new) {
-        Directive::Replace => tally_kept(new, old, 0, none),
-        Directive::Override => {
-            let t = tally_kept(new, old, 0, none);
-            let n = tables::read::production_count(new);
-            tally_kept(old, new, n, t)
-        }
-        Directive::Augment => {
-            let t = tally_kept(old, new, 0, none);
-            let n = tables::read::production_count(old);
-            tally_kept(new, old, n, t)
-        }
-    }
+    take_merged::<Counting>(old, new, &mut [])
 }
 
 // Whether a limit in all is passed. The limits of one production hold, since it stands in a whole table.

@@ -3,3 +3,4 @@
 
 pub mod compare;
 pub mod count;
+pub mod kept;

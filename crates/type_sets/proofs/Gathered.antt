@@ -2,19 +2,19 @@
 use Prim.Native.Nat.{ℕ, zero, suc, ◌+◌, ◌*◌, ◌/◌, ◌%◌, ◌^◌, ◌≤◌, ◌<◌}
 use native.Mathlib.Omega.{arith}
 use native.Mathlib.Nat.{mod-eq_of_lt, zero-add}
-use borrow.Author.Tests.{eqb-true, eqb-false, eq-eqb, leb-true, lt-leb, ltb-true}
+use borrow.Author.Tests.{ltb-true}
+use Rattle.std.proofs.lemmas.Bool.Decides.{nat_tests}
 use mathlib.Core.Path.{◌≡◌, refl, sym, ap, ap₂, ◌∙◌}
-use mathlib.Core.Bool.{Bool, true, false, cond, not, ◌&&◌, ◌||◌, and_comm}
+use mathlib.Core.Bool.{Bool, true, false, cond, not, ◌&&◌, ◌||◌}
 use mathlib.Core.List.{List}
 use lib.Bits.{bit_or, or_lt}
 use lib.Dec.{eqb, leb, ltb}
 use lib.Pow.{pow-lt}
 use Rattle.words.specs.Words.{word_at}
-use Rattle.words.proofs.Bools.{same_test}
 use Rattle.words.proofs.RunLaws.{every_at}
 use Rattle.model.specs.Modifiers.{bit}
 use Rattle.modifiers.proofs.Digits.{digit, bit_none, bit_or_lem, bit_power}
-use Rattle.modifiers.proofs.Masks.{same_bits}
+use Rattle.modifiers.proofs.Masks.{digit_odd, same_bits}
 use Rattle.tables.specs.Layout.{codes_at, counts_at}
 use Rattle.tables.specs.Reading.{event_total, event_entry, decode}
 use Rattle.fields.proofs.TableFacts.{EntryFacts, TableFacts}
@@ -27,31 +27,15 @@ use Rattle.type_sets.proofs.Joined.{bit_joined, joined_below, joined_same, joine
 
 -- ---- Tests of the first events
 
-or_swap : (a b c d : Bool) → (a || b) || (c || d) ≡ (a || c) || (b || d)
-or_swap true b c d = refl
-or_swap false true true d = refl
-or_swap false true false d = refl
-or_swap false false c d = refl
-
 either_below : (f g : ℕ → Bool) (n : ℕ) → any_below f n || any_below g n ≡ any_below (λ i. f i || g i) n
 unfolding any_below
 either_below f g zero = refl
-either_below f g (suc n) =
-    or_swap (any_below f n) (f n) (any_below g n) (g n) ∙ ap (λ (b : Bool). b || (f n || g n)) (either_below f g n)
+either_below f g (suc n) = grind (arith, either_below f g n)
 
 same_below : (f g : ℕ → Bool) (n : ℕ) → ((i : ℕ) → i < n → f i ≡ g i) → any_below f n ≡ any_below g n
 unfolding any_below
 same_below f g zero e = refl
 same_below f g (suc n) e = ap₂ ◌||◌ (same_below f g n (λ i h. e i (omega arith))) (e n (omega arith))
-
--- the digit that stands for a number's lowest bit
-digit_odd : (m : ℕ) → digit (eqb (m % 2) 1) ≡ m % 2
-digit_odd m = go (m % 2) (omega arith)
-  where
-    go : (d : ℕ) → d < 2 → digit (eqb d 1) ≡ d
-    go zero h = refl
-    go (suc zero) h = refl
-    go (suc (suc d)) h = absurd (omega arith)
 
 -- ---- Counted events
 
@@ -89,30 +73,10 @@ pairs_join x y =
 abbrev pair_bits : (code count : ℕ) → ℕ
 pair_bits code count = cond (eqb count 1) 0 (cond (ltb code 4) 12 48)
 
-pair_of : (own : ℕ) → 2 ≤ own → own ≤ 5 → pairs_of own ≡ cond (ltb own 4) 12 48
-unfolding pairs_of
-pair_of zero low high = absurd (omega arith)
-pair_of (suc zero) low high = absurd (omega arith)
-pair_of (suc (suc zero)) low high = refl
-pair_of (suc (suc (suc zero))) low high = refl
-pair_of (suc (suc (suc (suc zero)))) low high = refl
-pair_of (suc (suc (suc (suc (suc zero))))) low high = refl
-pair_of (suc (suc (suc (suc (suc (suc n)))))) low high = absurd (omega arith)
-
-only_five : (own count : ℕ) → 1 ≤ count → (leb count 1 || leb own 5) ≡ true → eqb count 1 ≡ false → own ≤ 5
-only_five own count least few q =
-    let ne : count ≡ 1 → ⊥ = eqb-false count 1 q in
-    let more : 1 < count = omega arith in
-    leb-true own 5 (ap (λ (b : Bool). b || leb own 5) (sym (lt-leb count 1 more)) ∙ few)
-
 pairs_added : (own count : ℕ) → 2 ≤ own → 1 ≤ count → (leb count 1 || leb own 5) ≡ true
     → pairs_of (cond (eqb count 1) 0 own) ≡ pair_bits own count
 unfolding pairs_of
-pairs_added own count low least few = go (eqb count 1) refl
-  where
-    go : (b : Bool) → eqb count 1 ≡ b → pairs_of (cond b 0 own) ≡ cond b 0 (cond (ltb own 4) 12 48)
-    go true q = refl
-    go false q = pair_of own low (only_five own count least few q)
+pairs_added own count low least few = grind (arith, nat_tests)
 
 -- ---- One event
 
@@ -122,50 +86,12 @@ key_pair c = bit_or_lem c 4 8 ∙ ap₂ ◌||◌ (bit_power c 2) (bit_power c 3)
 button_pair : (c : ℕ) → bit c 48 ≡ eqb 4 c || eqb 5 c
 button_pair c = bit_or_lem c 16 32 ∙ ap₂ ◌||◌ (bit_power c 4) (bit_power c 5)
 
-first_again : (a b : Bool) → a || (a || b) ≡ a || b
-first_again true b = refl
-first_again false b = refl
-
-second_again : (a b : Bool) → b || (a || b) ≡ b || a
-second_again true true = refl
-second_again true false = refl
-second_again false true = refl
-second_again false false = refl
-
--- a counted event of a key or a button
-pair_has : (own c : ℕ) → 2 ≤ own → own ≤ 5 → eqb own c || bit c (cond (ltb own 4) 12 48) ≡ eqb own c || eqb (other_code own) c
-pair_has zero c low high = absurd (omega arith)
-pair_has (suc zero) c low high = absurd (omega arith)
-pair_has (suc (suc zero)) c low high = ap (λ (b : Bool). eqb 2 c || b) (key_pair c) ∙ first_again (eqb 2 c) (eqb 3 c)
-pair_has (suc (suc (suc zero))) c low high = ap (λ (b : Bool). eqb 3 c || b) (key_pair c) ∙ second_again (eqb 2 c) (eqb 3 c)
-pair_has (suc (suc (suc (suc zero)))) c low high = ap (λ (b : Bool). eqb 4 c || b) (button_pair c) ∙ first_again (eqb 4 c) (eqb 5 c)
-pair_has (suc (suc (suc (suc (suc zero))))) c low high = ap (λ (b : Bool). eqb 5 c || b) (button_pair c) ∙ second_again (eqb 4 c) (eqb 5 c)
-pair_has (suc (suc (suc (suc (suc (suc n)))))) c low high = absurd (omega arith)
-
-other_back : (own c : ℕ) → eqb (other_code own) c ≡ eqb own (other_code c)
-other_back own c =
-    same_test (eqb (other_code own) c) (eqb own (other_code c))
-    (λ e. let q : other_code own ≡ c = eqb-true (other_code own) c e in eq-eqb own (other_code c) (omega arith))
-    (λ e. let q : own ≡ other_code c = eqb-true own (other_code c) e in eq-eqb (other_code own) c (omega arith))
-
 words_have : (own count c : ℕ) → 2 ≤ own → 1 ≤ count → (leb count 1 || leb own 5) ≡ true
     → eqb own c || bit c (pair_bits own count) ≡ eqb own c || (eqb own (other_code c) && not (eqb count 1))
-words_have own count c low least few = go (eqb count 1) refl
-  where
-    go : (b : Bool) → eqb count 1 ≡ b
-        → eqb own c || bit c (cond b 0 (cond (ltb own 4) 12 48)) ≡ eqb own c || (eqb own (other_code c) && not b)
-    go true q = ap (λ (b : Bool). eqb own c || b) (bit_none c ∙ and_comm false (eqb own (other_code c)))
-    go false q =
-        pair_has own c low (only_five own count least few q)
-        ∙ ap (λ (b : Bool). eqb own c || b) (other_back own c ∙ and_comm true (eqb own (other_code c)))
+words_have own count c low least few = grind (arith, nat_tests, bit_none c, key_pair c, button_pair c)
 
 pairs_below : (own count : ℕ) → pair_bits own count < 64
-pairs_below own count = go (eqb count 1) (ltb own 4)
-  where
-    go : (a b : Bool) → cond a 0 (cond b 12 48) < 64
-    go true b = omega arith
-    go false true = omega arith
-    go false false = omega arith
+pairs_below own count = grind (arith, nat_tests)
 
 -- ---- All events
 

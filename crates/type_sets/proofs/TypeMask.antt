@@ -2,28 +2,19 @@
 use Prim.Native.Nat.{ℕ, zero, suc, ◌+◌, ◌*◌, ◌/◌, ◌%◌, ◌^◌, ◌<◌}
 use native.Mathlib.Omega.{arith}
 use native.Mathlib.Nat.{pow-suc}
-use mathlib.Core.Path.{◌≡◌, refl, ap, ◌∙◌}
-use mathlib.Core.Bool.{Bool, true, false}
+use mathlib.Core.Path.{◌≡◌, ap, ◌∙◌}
+use mathlib.Core.Bool.{Bool}
 use lib.Dec.{eqb}
 use Rattle.model.specs.Modifiers.{bit, bit_if}
 use Rattle.modifiers.proofs.Digits.{digit, bit_zero, bit_suc}
+use Rattle.modifiers.proofs.Masks.{digit_below, digit_tested}
 use Rattle.type_sets.specs.TypeSet.{mask_below}
 
 lowest : (b : Bool) → bit_if b 0 ≡ digit b
-lowest true = refl
-lowest false = refl
+lowest b = grind arith
 
 double_bit : (b : Bool) (k : ℕ) → 2 * bit_if b k ≡ bit_if b (suc k)
-double_bit true k = omega (arith, pow-suc 2 k)
-double_bit false k = refl
-
-digit_below : (b : Bool) → digit b < 2
-digit_below true = omega arith
-digit_below false = omega arith
-
-digit_tested : (b : Bool) → eqb (digit b) 1 ≡ b
-digit_tested true = refl
-digit_tested false = refl
+double_bit b k = grind (arith, pow-suc 2 k)
 
 -- the lowest bit, and the others as a mask of their own
 below_halves : (n : ℕ) (f : ℕ → Bool) → mask_below (suc n) f ≡ digit (f 0) + 2 * mask_below n (λ k. f (suc k))

@@ -1,13 +1,13 @@
 -- R-5: the set of types that the events of a table name, expansion included, gathered from the words of their codes and counts.
-use Rattle.std.specs.Prelude.{ℕ, zero, suc, ◌+◌, ◌*◌, ◌/◌, ◌%◌, ◌^◌, cond, List, eqb, ltb}
+use Rattle.std.specs.Prelude.{ℕ, ◌+◌, ◌*◌, ◌/◌, ◌%◌, ◌^◌, cond, List, eqb, ltb}
 use Rattle.std.specs.Int.Bits.{bit_or}
+use Rattle.std.specs.List.{fold, range_with_len}
 use Rattle.words.specs.Words.{word_at}
 use Rattle.tables.specs.Layout.{codes_at, counts_at}
 
 -- masks over a run of numbers, joined
 unfoldable pub masks_joined : (ℕ → ℕ) → ℕ → ℕ → ℕ
-masks_joined f s zero = 0
-masks_joined f s (suc n) = bit_or (masks_joined f s n) (f (s + n))
+masks_joined f s n = fold (λ joined i. bit_or joined (f i)) 0 (range_with_len s n)
 
 -- the code of event i
 unfoldable pub code_at : List ℕ → ℕ → ℕ

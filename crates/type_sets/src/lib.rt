@@ -27,24 +27,20 @@ pub struct CodeJoin {
 }
 
 // No early exit, and numbers of 16 bits, so that the loop is compiled to vector instructions.
+#[tactic(auto, using(crate::proofs::Joined::joined_none, crate::proofs::Joined::joined_more), unfolding(crate::specs::Scan::code_at, crate::specs::Scan::counted_at))]
 fn join_codes(l: &[u8], n: usize) -> CodeJoin
     requires { (table_length ≤ length l.now) × (n ≤ 256) }
     ensures { (result.all ≡ masks_joined (code_at l.now) 0 n) × (result.counted ≡ masks_joined (counted_at l.now) 0 n) }
 {
     let mut all: u16 = 0;
     let mut counted: u16 = 0;
-    let mut i: usize = 0;
-    while i < n {
+    for i in 0..n {
         let code = words::word_at(l, places::CODES + i);
         let count = words::word_at(l, places::COUNTS + i);
-        all = all | code;
-        counted = counted | counted_code(code, count);
-        i += 1;
+        all |= code;
+        counted |= counted_code(code, count);
     }
-    CodeJoin {
-        all: all,
-        counted: counted,
-    }
+    CodeJoin { all, counted }
 }
 
 // ---- Codes as bits
@@ -62,42 +58,40 @@ fn code_bit(code: u16) -> u64
 }
 
 // Codes below 32. In numbers of 32 bits the loop is compiled to vector instructions.
+#[tactic(auto, unfolding(crate::specs::Scan::masks_joined, crate::specs::Scan::low_bit, crate::specs::Scan::code_at))]
 fn low_codes(l: &[u8], n: usize) -> u32
     requires { (table_length ≤ length l.now) × (n ≤ 256) }
     ensures { result ≡ masks_joined (low_bit l.now) 0 n }
 {
-    let mut codes: u32 = 0;
-    let mut i: usize = 0;
-    while i < n {
-        codes = codes | low_bit(words::word_at(l, places::CODES + i));
-        i += 1;
-    }
-    codes
+    (0..n).fold(
+        0,
+        |codes, i| codes | low_bit(words::word_at(l, places::CODES + i)),
+    )
 }
 
-// All codes, in numbers of 64 bits.
+// All codes, in numbers of 64 bits. The two folds differ in the width alone: a trait for it would be longer than both.
+#[tactic(auto, unfolding(crate::specs::Scan::masks_joined, crate::specs::Scan::code_bit, crate::specs::Scan::code_at))]
 fn all_codes(l: &[u8], n: usize) -> u64
     requires { (table_length ≤ length l.now) × (n ≤ 256) }
     ensures { result ≡ masks_joined (code_bit l.now) 0 n }
 {
-    let mut codes: u64 = 0;
-    let mut i: usize = 0;
-    while i < n {
-        codes = codes | code_bit(words::word_at(l, places::CODES + i));
-        i += 1;
-    }
-    codes
+    (0..n).fold(
+        0,
+        |codes, i| codes | code_bit(words::word_at(l, places::CODES + i)),
+    )
 }
 
 // ---- The set
 
+#[tactic(auto, unfolding(crate::specs::Scan::pairs_of))]
 fn pairs_of(counted: u16) -> u64
     ensures { result ≡ pairs_of counted }
 {
-    (12 * (counted / 2 % 2) + 48 * (counted / 4 % 2)) as u64
+    u64::from(12 * (counted / 2 % 2) + 48 * (counted / 4 % 2))
 }
 
 // The types of the first n events.
+#[tactic(auto, unfolding(crate::specs::Scan::types_gathered))]
 pub fn gather(l: &[u8], n: usize) -> u64
     requires { (table_length ≤ length l.now) × (n ≤ 256) }
     ensures { result ≡ types_gathered l.now n }
@@ -105,12 +99,13 @@ pub fn gather(l: &[u8], n: usize) -> u64
     let joined = join_codes(l, n);
     let pairs = pairs_of(joined.counted);
     if joined.all < 32 {
-        return (low_codes(l, n) as u64) | pairs;
+        return u64::from(low_codes(l, n)) | pairs;
     }
     all_codes(l, n) | pairs
 }
 
 // The types that a whole table names.
+#[tactic(auto, using(fields::proofs::TableFacts::long_table, fields::proofs::TableFacts::few_events))]
 pub fn types_of(table: &[u8]) -> u64
     requires { whole table.now ≡ true }
     ensures { result ≡ type_set (decode table.now).productions }

@@ -3,18 +3,17 @@ use Prim.Native.Nat.{ℕ, zero, suc, ◌+◌, ◌-◌, ◌≤◌, ◌<◌}
 use native.Mathlib.Omega.{arith}
 use native.Mathlib.Nat.{zero-add}
 use native.Mathlib.Numerals.{add-one}
-use borrow.Author.Tests.{eqb-true, eqb-false, eq-eqb, ne_eqb, leb-true, leb-false, le-ltb, lt-ltb}
+use Rattle.std.proofs.lemmas.Bool.Decides.{nat_tests}
 use mathlib.Core.Path.{◌≡◌, refl, sym, ap, ap₂, ◌∙◌}
-use mathlib.Core.Bool.{Bool, true, false, cond, not, ◌&&◌, ◌||◌, false≢true, or-false, or_assoc, and_comm}
+use mathlib.Core.Bool.{Bool, true, false, not, ◌&&◌, ◌||◌, or-false, or_assoc}
 use mathlib.Core.List.{List, [], ◌∷◌, ◌++◌}
-use lib.Dec.{eqb, leb, ltb}
+use lib.Dec.{eqb, leb}
 use Rattle.words.specs.Words.{word_at}
 use Rattle.words.specs.Runs.{run}
 use Rattle.words.proofs.RunLaws.{run_more}
-use Rattle.words.proofs.Bools.{same_test}
 use Rattle.model.specs.Lists.{any}
 use Rattle.model.specs.Tables.{Production}
-use Rattle.model.specs.Counts.{Element, element, is_release, release_press, press_release, counted_press, counted_release, elements_at, elements_of, expanded, sequence}
+use Rattle.model.specs.Counts.{Element, is_release, release_press, press_release, counted_press, counted_release, elements_at, elements_of, expanded, sequence}
 use Rattle.model.specs.Matching.{has_type}
 use Rattle.model.specs.declared.events.KeptEvent.{KeptEvent}
 use Rattle.tables.specs.Layout.{production_events_at, flat, all_events}
@@ -22,11 +21,6 @@ use Rattle.tables.specs.Reading.{production_total, event_total, production_event
 use Rattle.tables.proofs.Lists.{flat_runs}
 use Rattle.types.specs.Types.{any_below, other_code, event_has, has_code, has_either}
 use Rattle.fields.proofs.TableFacts.{EntryFacts, TableFacts}
-
-or_again : (a b : Bool) → a || (b || (a || b)) ≡ a || b
-or_again true b = refl
-or_again false true = refl
-or_again false false = refl
 
 -- ---- A test of the first events
 
@@ -51,118 +45,49 @@ module _ (code : ℕ) where
 
   any_press : (n : ℕ) (e : KeptEvent) → any has (release_press (suc n) e) ≡ eqb (e.code + 1) code || eqb e.code code
   unfolding release_press
-  any_press zero e = ap (λ (b : Bool). eqb (e.code + 1) code || b) (or-false (eqb e.code code))
-  any_press (suc n) e =
-      ap (λ (b : Bool). eqb (e.code + 1) code || (eqb e.code code || b)) (any_press n e)
-      ∙ or_again (eqb (e.code + 1) code) (eqb e.code code)
+  any_press zero e = grind arith
+  any_press (suc n) e = grind (arith, any_press n e)
 
   any_release : (n : ℕ) (e : KeptEvent) → any has (press_release (suc n) e) ≡ eqb (e.code - 1) code || eqb e.code code
   unfolding press_release
-  any_release zero e = ap (λ (b : Bool). eqb (e.code - 1) code || b) (or-false (eqb e.code code))
-  any_release (suc n) e =
-      ap (λ (b : Bool). eqb (e.code - 1) code || (eqb e.code code || b)) (any_release n e)
-      ∙ or_again (eqb (e.code - 1) code) (eqb e.code code)
-
-  merge : (a b : Bool) → a || (b || a) ≡ a || b
-  merge true b = refl
-  merge false true = refl
-  merge false false = refl
-
-  merge2 : (a b : Bool) → b || (a || (b || a)) ≡ a || b
-  merge2 true true = refl
-  merge2 true false = refl
-  merge2 false true = refl
-  merge2 false false = refl
+  any_release zero e = grind arith
+  any_release (suc n) e = grind (arith, any_release n e)
 
   counted_press_lem : (n : ℕ) (e : KeptEvent) → 1 < n → any has (counted_press n e) ≡ eqb e.code code || eqb (e.code + 1) code
   counted_press_lem n e h =
       let s : n - 1 ≡ suc (n - 2) = omega arith in
-      rw (s, any_press (n - 2) e) (merge (eqb e.code code) (eqb (e.code + 1) code))
+      rw (s, any_press (n - 2) e) (grind arith)
 
   counted_release_lem : (n : ℕ) (e : KeptEvent) → 1 < n → any has (counted_release n e) ≡ eqb e.code code || eqb (e.code - 1) code
   counted_release_lem n e h =
       let s : n - 1 ≡ suc (n - 2) = omega arith in
-      rw (s, any_release (n - 2) e) (merge2 (eqb e.code code) (eqb (e.code - 1) code))
+      rw (s, any_release (n - 2) e) (grind arith)
 
   -- of keys and buttons the releases are odd
   release_other : (c : ℕ) → is_release c ≡ true → other_code c ≡ c - 1
-  release_other c q = go (eqb c 3) refl
-    where
-      go : (t : Bool) → eqb c 3 ≡ t → other_code c ≡ c - 1
-      go true e = let s : c ≡ 3 = eqb-true c 3 e in rw s
-      go false e =
-          let o : eqb c 5 ≡ true = ap (λ (t : Bool). t || eqb c 5) (sym e) ∙ q in
-          let s : c ≡ 5 = eqb-true c 5 o in
-          rw s
+  release_other c q = grind (arith, nat_tests)
 
   press_other : (c : ℕ) → is_release c ≡ false → 2 ≤ c → c ≤ 5 → other_code c ≡ c + 1
-  press_other c q h m = go (eqb c 3) refl
-    where
-      go : (t : Bool) → eqb c 3 ≡ t → other_code c ≡ c + 1
-      go true e =
-          let z : true ≡ false = ap (λ (t : Bool). t || eqb c 5) (sym e) ∙ q in
-          absurd (false≢true (sym z))
-      go false e =
-          let a : c ≡ 3 → ⊥ = eqb-false c 3 e in
-          let o : eqb c 5 ≡ false = ap (λ (t : Bool). t || eqb c 5) (sym e) ∙ q in
-          let b : c ≡ 5 → ⊥ = eqb-false c 5 o in
-          omega arith
+  press_other c q h m = grind (arith, nat_tests)
 
   elements_have : (e : KeptEvent) → 2 ≤ e.code → (leb e.count 1 || leb e.code 5) ≡ true
       → any has (elements_of e) ≡ event_has e.code e.count code
   unfolding elements_of elements_at event_has
-  elements_have e low few = go (leb e.count 1) refl
-    where
-      kind : (b : Bool) → is_release e.code ≡ b → 1 < e.count → e.code ≤ 5
-          → any has (cond b (counted_release e.count e) (counted_press e.count e)) ≡ eqb e.code code || eqb (other_code e.code) code
-      kind true q h m =
-          counted_release_lem e.count e h
-          ∙ ap (λ (c : ℕ). eqb e.code code || eqb c code) (sym (release_other e.code q))
-      kind false q h m =
-          counted_press_lem e.count e h
-          ∙ ap (λ (c : ℕ). eqb e.code code || eqb c code) (sym (press_other e.code q low m))
-
-      go : (b : Bool) → leb e.count 1 ≡ b
-          → any has (cond b (element e.code false e ∷ []) (cond (is_release e.code) (counted_release e.count e) (counted_press e.count e)))
-          ≡ eqb e.code code || (ltb 1 e.count && eqb (other_code e.code) code)
-      go true q = rw (le-ltb 1 e.count (leb-true e.count 1 q))
-      go false q =
-          let h : 1 < e.count = leb-false e.count 1 q in
-          let m : leb e.code 5 ≡ true = ap (λ (t : Bool). t || leb e.code 5) (sym q) ∙ few in
-          rw (lt-ltb 1 e.count h) (kind (is_release e.code) refl h (leb-true e.code 5 m))
+  elements_have e low few =
+      let release : 1 < e.count → any has (counted_release e.count e) ≡ eqb e.code code || eqb (e.code - 1) code = counted_release_lem e.count e in
+      let press : 1 < e.count → any has (counted_press e.count e) ≡ eqb e.code code || eqb (e.code + 1) code = counted_press_lem e.count e in
+      grind (arith, nat_tests, release, press, release_other e.code, press_other e.code)
 
   -- ---- The tests of words
 
   -- only keys and buttons are counted
   plain : (own count : ℕ) → 5 < code → 2 ≤ own → (leb count 1 || leb own 5) ≡ true → eqb own code ≡ event_has own count code
   unfolding event_has
-  plain own count h low few = go (leb count 1) refl
-    where
-      go : (b : Bool) → leb count 1 ≡ b → eqb own code ≡ eqb own code || (ltb 1 count && eqb (other_code own) code)
-      go true q = rw (le-ltb 1 count (leb-true count 1 q)) (sym (or-false (eqb own code)))
-      go false q =
-          let m : leb own 5 ≡ true = ap (λ (t : Bool). t || leb own 5) (sym q) ∙ few in
-          let k : own ≤ 5 = leb-true own 5 m in
-          let n : other_code own ≡ code → ⊥ = λ e. omega arith in
-          rw (ne_eqb (other_code own) code n, and_comm) (sym (or-false (eqb own code)))
-
-  other_back : (own : ℕ) → eqb own (other_code code) ≡ eqb (other_code own) code
-  other_back own =
-      same_test (eqb own (other_code code)) (eqb (other_code own) code)
-      (λ e. let q : own ≡ other_code code = eqb-true own (other_code code) e in eq-eqb (other_code own) code (omega arith))
-      (λ e. let q : other_code own ≡ code = eqb-true (other_code own) code e in eq-eqb own (other_code code) (omega arith))
-
-  counted_is : (count : ℕ) → 1 ≤ count → not (eqb count 1) ≡ ltb 1 count
-  counted_is count h = go (eqb count 1) refl
-    where
-      go : (b : Bool) → eqb count 1 ≡ b → not b ≡ ltb 1 count
-      go true q = let e : count ≡ 1 = eqb-true count 1 q in sym (le-ltb 1 count (omega arith))
-      go false q = let n : count ≡ 1 → ⊥ = eqb-false count 1 q in sym (lt-ltb 1 count (omega arith))
+  plain own count h low few = grind (arith, nat_tests)
 
   either : (own count : ℕ) → 1 ≤ count → (eqb own code || (eqb own (other_code code) && not (eqb count 1))) ≡ event_has own count code
   unfolding event_has
-  either own count h =
-      rw (counted_is count h, other_back own) (ap (λ (b : Bool). eqb own code || b) (and_comm (eqb (other_code own) code) (ltb 1 count)))
+  either own count h = grind (arith, nat_tests)
 
   -- ---- All events
 

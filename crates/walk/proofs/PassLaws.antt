@@ -5,7 +5,7 @@ use native.Mathlib.Numerals.{add-one}
 use borrow.Author.Tests.{eq-eqb, ne_eqb, eqb-true, eqb-false}
 use mathlib.Core.Path.{◌≡◌, refl, sym, ap, ap₂, ◌∙◌}
 use mathlib.Core.Bool.{Bool, true, false, cond, ◌&&◌, ◌||◌}
-use mathlib.Core.Option.{Option, none, some}
+use Rattle.std.specs.Prelude.{Option, None, Some}
 use mathlib.Core.List.{List, [], ◌∷◌}
 use lib.Dec.{eqb}
 use lib.ListN.{length, get_or, take, drop}
@@ -51,11 +51,11 @@ module _ (setting : Setting) where
   walked_reads two one [] [] = refl
   walked_reads two one (el ∷ els) [] = refl
   walked_reads two one [] (x ∷ xs) = refl
-  walked_reads two one (el ∷ els) (x ∷ xs) = go (fits setting two el x) refl (walked_reads one (some x) els xs)
+  walked_reads two one (el ∷ els) (x ∷ xs) = go (fits setting two el x) refl (walked_reads one (Some x) els xs)
     where
       go : (b : Bool) → fits setting two el x ≡ b
-          → reads (walked setting one (some x) els xs) ≡ follows setting one (some x) els xs
-          → reads (cond b (walked setting one (some x) els xs) Followed.No) ≡ b && follows setting one (some x) els xs
+          → reads (walked setting one (Some x) els xs) ≡ follows setting one (Some x) els xs
+          → reads (cond b (walked setting one (Some x) els xs) Followed.No) ≡ b && follows setting one (Some x) els xs
       go true q i = i
       go false q i = refl
 
@@ -77,22 +77,22 @@ module _ (setting : Setting) where
   walked_completes two one (el ∷ els) [] = rw (ne_eqb 0 (suc (length els)) (λ h. omega arith))
   walked_completes two one [] (x ∷ xs) = sym (and_false (eqb (suc (length xs)) 0))
   walked_completes two one (el ∷ els) (x ∷ xs) =
-      rw (eqb_suc (length xs) (length els)) (go (fits setting two el x) (walked_completes one (some x) els xs))
+      rw (eqb_suc (length xs) (length els)) (go (fits setting two el x) (walked_completes one (Some x) els xs))
     where
       go : (b : Bool)
-          → completes (walked setting one (some x) els xs) ≡ eqb (length xs) (length els) && follows setting one (some x) els xs
-          → completes (cond b (walked setting one (some x) els xs) Followed.No)
-          ≡ eqb (length xs) (length els) && (b && follows setting one (some x) els xs)
+          → completes (walked setting one (Some x) els xs) ≡ eqb (length xs) (length els) && follows setting one (Some x) els xs
+          → completes (cond b (walked setting one (Some x) els xs) Followed.No)
+          ≡ eqb (length xs) (length els) && (b && follows setting one (Some x) els xs)
       go true i = i
       go false i = sym (and_false (eqb (length xs) (length els)))
 
   followed_reads : (xs : List Event) (p : Production) → reads (followed setting xs p) ≡ reads_as_prefix setting xs p
   unfolding followed reads_as_prefix
-  followed_reads xs p = walked_reads none none (sequence p) xs
+  followed_reads xs p = walked_reads None None (sequence p) xs
 
   followed_completes : (xs : List Event) (p : Production) → completes (followed setting xs p) ≡ is_whole_sequence setting xs p
   unfolding followed is_whole_sequence reads_as_prefix
-  followed_completes xs p = walked_completes none none (sequence p) xs
+  followed_completes xs p = walked_completes None None (sequence p) xs
 
 -- ---- All productions
 
@@ -101,10 +101,15 @@ some_reads Passed.No = false
 some_reads Passed.Prefix = true
 some_reads (Passed.Chosen p) = true
 
+pub some_read : (r : Passed) → (r ≡ Passed.No → ⊥) → some_reads r ≡ true
+some_read Passed.No h = absurd (h refl)
+some_read Passed.Prefix h = refl
+some_read (Passed.Chosen p) h = refl
+
 abbrev pub chosen_by : Passed → Option ℕ
-chosen_by Passed.No = none
-chosen_by Passed.Prefix = none
-chosen_by (Passed.Chosen p) = some p
+chosen_by Passed.No = None
+chosen_by Passed.Prefix = None
+chosen_by (Passed.Chosen p) = Some p
 
 module _ (f : Production → Followed) where
   passes_reads : (i : ℕ) (seen : Bool) (ps : List Production) → some_reads (passes f i seen ps) ≡ seen || any (λ p. reads (f p)) ps
@@ -135,7 +140,7 @@ module _ (f : Production → Followed) where
           → chosen_by (passes f (suc i) seen ps) ≡ earliest (λ p. completes (f p)) (suc i) ps
           → chosen_by (passes f (suc i) true ps) ≡ earliest (λ p. completes (f p)) (suc i) ps
           → chosen_by (pass_next r i (passes f (suc i) seen ps) (passes f (suc i) true ps))
-          ≡ cond (completes r) (some i) (earliest (λ p. completes (f p)) (suc i) ps)
+          ≡ cond (completes r) (Some i) (earliest (λ p. completes (f p)) (suc i) ps)
       go Followed.No q a b = a
       go Followed.Prefix q a b = b
       go Followed.Whole q a b = refl
@@ -146,7 +151,7 @@ any_each f g h (x ∷ xs) = ap₂ ◌||◌ (h x) (any_each f g h xs)
 
 earliest_each : {A : Type 0} (f g : A → Bool) → ((x : A) → f x ≡ g x) → (i : ℕ) (xs : List A) → earliest f i xs ≡ earliest g i xs
 earliest_each f g h i [] = refl
-earliest_each f g h i (x ∷ xs) = ap₂ (λ (b : Bool) (o : Option ℕ). cond b (some i) o) (h x) (earliest_each f g h (suc i) xs)
+earliest_each f g h i (x ∷ xs) = ap₂ (λ (b : Bool) (o : Option ℕ). cond b (Some i) o) (h x) (earliest_each f g h (suc i) xs)
 
 module _ (t : Table) (setting : Setting) where
   pub passed_prefix : (xs : List Event) → some_reads (passed t setting xs) ≡ (reading_of t setting).prefix xs
@@ -184,7 +189,7 @@ module _ (setting : Setting) (l : List ℕ) (xs : List Event) where
   -- the walk that the code makes for production p
   pub production_walk : (p : ℕ)
       → followed setting xs (production_entry l p)
-      ≡ walked setting none none (expanded (run (event_entry l) (first_event l p) (production_events l p))) xs
+      ≡ walked setting None None (expanded (run (event_entry l) (first_event l p) (production_events l p))) xs
   unfolding followed sequence production_entry
   production_walk p = refl
 
@@ -274,12 +279,9 @@ module _ (setting : Setting) (l : List ℕ) (xs : List Event) where
     pub place : at ≡ first_event l p
     pub comes : passed (decode l) setting xs ≡ onward setting l xs p seen
 
-  pub passing_start : Passing false 0 0
-  passing_start = record { low = omega arith; place = sym (first_events l); comes = onward_start setting l xs }
-
   module _ (seen : Bool) (at p size : ℕ) (w : Passing seen at p) (h : p < production_total l) (e : size ≡ production_events l p) where
     abbrev walk : Followed
-    walk = walked setting none none (expanded (run (event_entry l) at size)) xs
+    walk = walked setting None None (expanded (run (event_entry l) at size)) xs
 
     walk_is : walk ≡ followed setting xs (production_entry l p)
     walk_is = rw (w.place, e) (sym (production_walk setting l xs p))

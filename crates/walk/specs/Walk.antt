@@ -1,6 +1,5 @@
 -- What one pass over the productions finds of a stretch. proofs/PassLaws shows that this comes to model's rules.
-use Rattle.std.specs.Prelude.{ℕ, suc, ◌≤◌, ◌<◌, ◌≡◌, Bool, true, false, cond, List, [], ◌∷◌}
-use Rattle.std.proofs.Math.Option.{none}
+use Rattle.std.specs.Prelude.{ℕ, suc, ◌≤◌, ◌<◌, ◌≡◌, Bool, true, false, cond, List, [], ◌∷◌, None}
 use Rattle.model.specs.Setting.{Setting}
 use Rattle.model.specs.Tables.{Production, Table}
 use Rattle.model.specs.Counts.{sequence}
@@ -13,7 +12,7 @@ use Rattle.walk.specs.declared.Passed.{Passed}
 -- ---- One production
 
 unfoldable pub followed : Setting → List Event → Production → Followed
-followed setting xs p = walked setting none none (sequence p) xs
+followed setting xs p = walked setting None None (sequence p) xs
 
 -- ---- One pass over the productions
 

@@ -50,12 +50,10 @@ fn sixteen(table: &[u8], p: usize) -> usize
     ensures { result ≡ total (production_events table.now) p 16 }
 {
     let mut sum: u16 = 0;
-    let mut i: usize = 0;
-    while i < 16 {
+    for i in 0..16 {
         sum += words::word_at(table, places::PRODUCTION_EVENTS + (p + i));
-        i += 1;
     }
-    sum as usize
+    usize::from(sum)
 }
 
 // A production not far before the first whose events do not begin before `low`: sixteen are stepped over at a time.
@@ -64,16 +62,18 @@ fn leap(table: &[u8], n: usize, low: usize) -> Spot
     ensures { Skipped table.now low result.at result.p }
 {
     let mut at: usize = 0;
-    let mut p: usize = 0;
-    while p + 16 <= n {
+    for i in 0..n / 16 {
+        let p = 16 * i;
         let next = at + sixteen(table, p);
         if low < next {
             return Spot { at, p };
         }
         at = next;
-        p += 16;
     }
-    Spot { at, p }
+    Spot {
+        at,
+        p: 16 * (n / 16),
+    }
 }
 
 // The first production whose events do not begin before `low`.
@@ -84,15 +84,13 @@ fn skip(table: &[u8], low: usize) -> Spot
     let n = tables::read::production_count(table);
     let spot = leap(table, n, low);
     let mut at = spot.at;
-    let mut p = spot.p;
-    while p < n {
+    for p in spot.p..n {
         if low <= at {
             return Spot { at, p };
         }
         at += tables::read::production_events(table, p);
-        p += 1;
     }
-    Spot { at, p }
+    Spot { at, p: n }
 }
 
 // What a pass has found that found no whole sequence.
@@ -118,35 +116,23 @@ fn scan(
     ensures { result ≡ passed (decode table.now) (lent_setting maps.now limit) (drop from (take to (slots_of events.now))) }
 {
     let n = tables::read::production_count(table);
-    let spot = skip(table, reach.low as usize);
-    let high = reach.high as usize;
+    let spot = skip(table, usize::from(reach.low));
+    let high = usize::from(reach.high);
     let mut seen = false;
     let mut at = spot.at;
-    let mut p = spot.p;
-    while p < n {
+    for p in spot.p..n {
         if high <= at {
             return ended(seen);
         }
         let size = tables::read::production_events(table, p);
         if filter::seems_one(table, at, one) {
             match follow::follow(table, maps, limit, at, size, events, from, to) {
-                Followed::Whole => {
-                    return Passed::Chosen(p);
-                }
-                Followed::Prefix => {
-                    seen = true;
-                    at += size;
-                    p += 1;
-                }
-                Followed::No => {
-                    at += size;
-                    p += 1;
-                }
+                Followed::Whole => return Passed::Chosen(p),
+                Followed::Prefix => seen = true,
+                Followed::No => {}
             }
-        } else {
-            at += size;
-            p += 1;
         }
+        at += size;
     }
     ended(seen)
 }
@@ -190,28 +176,14 @@ pub fn first_start(
     requires { WalkReady table.now maps.now events.now to × (from ≤ to) }
     ensures { (result.at ≤ to) × (drop result.at (take to (slots_of events.now)) ≡ longest_end (reading_of (decode table.now) (lent_setting maps.now limit)) (drop from (take to (slots_of events.now)))) × (result.found ≡ passed_in (decode table.now) (lent_setting maps.now limit) (drop result.at (take to (slots_of events.now)))) }
 {
-    let mut at = from;
-    while at < to {
+    for at in from..to {
         match pass(table, maps, limit, events, at, to) {
-            Passed::No => {
-                at += 1;
-            }
-            Passed::Prefix => {
-                return Start {
-                    at,
-                    found: Passed::Prefix,
-                };
-            }
-            Passed::Chosen(p) => {
-                return Start {
-                    at,
-                    found: Passed::Chosen(p),
-                };
-            }
+            Passed::No => {}
+            found => return Start { at, found },
         }
     }
     Start {
-        at,
+        at: to,
         found: Passed::No,
     }
 }

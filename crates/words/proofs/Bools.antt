@@ -1,51 +1,32 @@
 -- Conjunctions of tests.
-use mathlib.Core.Path.{◌≡◌, refl, sym, ◌∙◌}
-use mathlib.Core.Bool.{Bool, true, false, ◌&&◌, ◌||◌, false≢true, true≢false}
+use mathlib.Core.Path.{◌≡◌}
+use mathlib.Core.Bool.{Bool, true, false, ◌&&◌, ◌||◌}
+use Rattle.std.proofs.lemmas.Bool.{and_parts, and_from, or_parts, or_from}
+use Rattle.std.specs.Cmp.{both_ways}
 use mathlib.Core.List.{List, [], ◌∷◌}
 
 module _ (a b : Bool) where
   pub and_left : (a && b) ≡ true → a ≡ true
-  and_left e = go a refl
-    where
-      go : (t : Bool) → a ≡ t → a ≡ true
-      go true q = q
-      go false q = absurd (false≢true (rw q at e))
+  and_left e = (and_parts a b e).0
 
   pub and_right : (a && b) ≡ true → b ≡ true
-  and_right e = go a refl
-    where
-      go : (t : Bool) → a ≡ t → b ≡ true
-      go true q = rw q at e
-      go false q = absurd (false≢true (rw q at e))
+  and_right e = (and_parts a b e).1
 
   pub and_both : a ≡ true → b ≡ true → (a && b) ≡ true
-  and_both p q = rw (p, q)
+  and_both p q = and_from a b p q
 
   pub or_no_left : (a || b) ≡ false → a ≡ false
-  or_no_left e = go a refl
-    where
-      go : (t : Bool) → a ≡ t → a ≡ false
-      go true q = absurd (true≢false (rw q at e))
-      go false q = q
+  or_no_left e = (or_parts a b e).0
 
   pub or_no_right : (a || b) ≡ false → b ≡ false
-  or_no_right e = go a refl
-    where
-      go : (t : Bool) → a ≡ t → b ≡ false
-      go true q = absurd (true≢false (rw q at e))
-      go false q = rw q at e
+  or_no_right e = (or_parts a b e).1
 
   pub or_neither : a ≡ false → b ≡ false → (a || b) ≡ false
-  or_neither p q = rw (p, q)
+  or_neither p q = or_from a b p q
 
   -- two tests that pass in the same cases
   pub same_test : (a ≡ true → b ≡ true) → (b ≡ true → a ≡ true) → a ≡ b
-  same_test f g = go a b refl refl
-    where
-      go : (x y : Bool) → a ≡ x → b ≡ y → a ≡ b
-      go true y p q = p ∙ sym (f p)
-      go false true p q = g q ∙ sym q
-      go false false p q = p ∙ sym q
+  same_test f g = both_ways a b f g
 
 -- ---- `a && b && c && ..`, which associates to the left
 

@@ -2,14 +2,19 @@
 use Prim.Native.Nat.{ℕ, zero, suc, ◌+◌, ◌-◌, ◌^◌, ◌≤◌, ◌<◌}
 use native.Mathlib.Omega.{arith}
 use native.Mathlib.Nat.{zero-add}
-use mathlib.Core.Path.{◌≡◌, refl, ap, ◌∙◌}
-use mathlib.Core.List.{List}
-use mathlib.Core.Bool.{Bool, true, false, ◌&&◌, and_assoc, and_self}
+use mathlib.Core.Path.{◌≡◌, refl, sym, ap, ◌∙◌}
+use mathlib.Core.List.{List, [], ◌∷◌, ◌++◌, map}
+use lib.ListN.{length, take, get_or}
+use Rattle.std.specs.List.{list_all}
+use Rattle.std.proofs.lemmas.List.Folds.{list_all_more, list_all-append}
+use Rattle.std.proofs.lemmas.Bool.{and_parts}
+use Rattle.words.specs.Words.{word_at}
+use mathlib.Core.Bool.{Bool, true, false, ◌&&◌, and_assoc}
 use lib.Dec.{leb, eqb, ltb}
 use lib.Bits.{bit_or, or_add_and, or_lt, and_le_l, and_le_r}
 use borrow.Author.Tests.{leb-true, le-leb, eqb-true, eq-eqb, lt-ltb, ltb-true, ltb-false}
-use Rattle.words.specs.Runs.{every, is_zero, three_zero, four_zero}
-use Rattle.words.proofs.Bools.{and_left, and_right, and_both, same_test}
+use Rattle.words.specs.Runs.{every, is_zero, zero_between, zero_in}
+use Rattle.words.proofs.Bools.{and_left, and_right, and_both, same_test, AllTrue}
 use Rattle.words.proofs.RunLaws.{every_at, every_all, every_shift}
 
 -- numbers joined are 0 where both are
@@ -34,18 +39,6 @@ or_zero x y = same_test (eqb (bit_or x y) 0) (eqb x 0 && eqb y 0) there back
 -- and where all three are
 pub or_zero_three : (x y z : ℕ) → eqb (bit_or (bit_or x y) z) 0 ≡ (eqb x 0 && eqb y 0 && eqb z 0)
 or_zero_three x y z = or_zero (bit_or x y) z ∙ ap (λ (t : Bool). t && eqb z 0) (or_zero x y)
-
--- and where all four are
-pub or_zero_four : (w x y z : ℕ) → eqb (bit_or (bit_or (bit_or w x) y) z) 0 ≡ (eqb w 0 && eqb x 0 && eqb y 0 && eqb z 0)
-or_zero_four w x y z = or_zero (bit_or (bit_or w x) y) z ∙ ap (λ (t : Bool). t && eqb z 0) (or_zero_three w x y)
-
--- three or four more numbers, joined to what was joined before
-pub three_joined : (j x y z : ℕ) → eqb (bit_or j (bit_or (bit_or x y) z)) 0 ≡ (eqb j 0 && (eqb x 0 && eqb y 0 && eqb z 0))
-three_joined j x y z = or_zero j (bit_or (bit_or x y) z) ∙ ap (λ (t : Bool). eqb j 0 && t) (or_zero_three x y z)
-
-pub four_joined : (j w x y z : ℕ)
-    → eqb (bit_or j (bit_or (bit_or (bit_or w x) y) z)) 0 ≡ (eqb j 0 && (eqb w 0 && eqb x 0 && eqb y 0 && eqb z 0))
-four_joined j w x y z = or_zero j (bit_or (bit_or (bit_or w x) y) z) ∙ ap (λ (t : Bool). eqb j 0 && t) (or_zero_four w x y z)
 
 -- numbers joined are below a power of two where both are
 pub or_below : (k x y : ℕ) → ltb (bit_or x y) (2 ^ k) ≡ (ltb x (2 ^ k) && ltb y (2 ^ k))
@@ -90,7 +83,7 @@ module _ (test : ℕ → Bool) (s n h : ℕ) (short : h ≤ n) (long : n ≤ h +
   pub every_halves : (every test s h && every test (s + (n - h)) h) ≡ every test s n
   every_halves = same_test (every test s h && every test (s + (n - h)) h) (every test s n) halves_there halves_back
 
--- ---- Two, three and four places, each by one place more
+-- ---- Words past several places, in two runs of h words that cover them
 
 and_across : (p q r s : Bool) → ((p && q) && (r && s)) ≡ ((p && r) && (q && s))
 and_across true true r s = refl
@@ -106,73 +99,73 @@ every_both f g s (suc n) =
     ap (λ (t : Bool). t && (f (s + n) && g (s + n))) (every_both f g s n)
     ∙ and_across (every f s n) (every g s n) (f (s + n)) (g (s + n))
 
--- n words from a place on are 0
-abbrev zero_from : List ℕ → (a n : ℕ) → Bool
-zero_from l a n = every (is_zero l) a n
+every_true : (s n : ℕ) → every (λ i. true) s n ≡ true
+unfolding every
+every_true s zero = refl
+every_true s (suc n) = rw (every_true s n)
 
-module _ (l : List ℕ) (n : ℕ) where
-  from_place : (a : ℕ) → every (λ i. is_zero l (a + i)) 0 n ≡ zero_from l a n
-  from_place a = every_shift (λ i. is_zero l (a + i)) (is_zero l) 0 a n (λ i q. rw zero-add)
+-- a test at each element, over a run
+every_element : (f : ℕ → ℕ → Bool) (xs : List ℕ) (s n : ℕ) → every (λ i. list_all (f i) xs) s n ≡ list_all (λ x. every (λ i. f i x) s n) xs
+every_element f [] s n = every_true s n
+every_element f (x ∷ xs) s n = every_both (λ i. f i x) (λ i. list_all (f i) xs) s n ∙ ap (λ (t : Bool). every (λ i. f i x) s n && t) (every_element f xs s n)
 
-  one_more : (f : ℕ → Bool) (r : Bool) (a : ℕ) → every f 0 n ≡ r → every (λ i. f i && is_zero l (a + i)) 0 n ≡ (r && zero_from l a n)
-  one_more f r a e = every_both f (λ i. is_zero l (a + i)) 0 n ∙ rw (e, from_place a)
+list_all_same : (f g : ℕ → Bool) (xs : List ℕ) → ((x : ℕ) → f x ≡ g x) → list_all f xs ≡ list_all g xs
+list_all_same f g [] e = refl
+list_all_same f g (x ∷ xs) e = rw (e x, list_all_same f g xs e)
 
-  every_two : (a b : ℕ) → every (λ i. is_zero l (a + i) && is_zero l (b + i)) 0 n ≡ (zero_from l a n && zero_from l b n)
-  every_two a b = one_more (λ i. is_zero l (a + i)) (zero_from l a n) b (from_place a)
+-- word i of the run from the front, and of the run at the back
+abbrev pub both_zero : (l : List ℕ) (from back i p : ℕ) → Bool
+both_zero l from back i p = is_zero l (p + from + i) && is_zero l (p + back + i)
 
-  pub every_three : (a b c : ℕ) → every (three_zero l a b c) 0 n ≡ (zero_from l a n && zero_from l b n && zero_from l c n)
-  unfolding three_zero
-  every_three a b c = one_more (λ i. is_zero l (a + i) && is_zero l (b + i)) (zero_from l a n && zero_from l b n) c (every_two a b)
+-- the words at one place more, joined to what was joined before
+pub joined_place : (l : List ℕ) (from back i : ℕ) (places : List ℕ) (k j a b : ℕ) (before : Bool)
+    → k < length places
+    → a ≡ word_at l (get_or places k 0 + from + i)
+    → b ≡ word_at l (get_or places k 0 + back + i)
+    → eqb j 0 ≡ (before && list_all (both_zero l from back i) (take k places))
+    → eqb (bit_or j (bit_or a b)) 0 ≡ (before && list_all (both_zero l from back i) (take (k + 1) places))
+unfolding is_zero
+joined_place l from back i places k j a b before h p q e =
+    rw (or_zero j (bit_or a b), or_zero a b, e, p, q, list_all_more (both_zero l from back i) places k 0 h)
+    (and_assoc before (list_all (both_zero l from back i) (take k places)) (both_zero l from back i (get_or places k 0)))
 
-  pub every_four : (a b c d : ℕ) → every (four_zero l a b c d) 0 n ≡ (zero_from l a n && zero_from l b n && zero_from l c n && zero_from l d n)
-  unfolding three_zero four_zero
-  every_four a b c d = one_more (three_zero l a b c) (zero_from l a n && zero_from l b n && zero_from l c n) d (every_three a b c)
+module _ (l : List ℕ) where
+  from_place : (a n : ℕ) → every (λ i. is_zero l (a + i)) 0 n ≡ every (is_zero l) a n
+  from_place a n = every_shift (λ i. is_zero l (a + i)) (is_zero l) 0 a n (λ i q. rw zero-add)
 
--- the same in two runs of one length that cover the n
-module _ (l : List ℕ) (n h : ℕ) (short : h ≤ n) (long : n ≤ h + h) where
-  halves_more : (p q r : Bool) (a : ℕ) → (p && q) ≡ r → ((p && zero_from l a h) && (q && zero_from l (a + (n - h)) h)) ≡ (r && zero_from l a n)
-  halves_more p q r a e =
-      and_across p (zero_from l a h) q (zero_from l (a + (n - h)) h) ∙ rw (e, every_halves (is_zero l) a n h short long)
+  module _ (from to h : ℕ) (order : from ≤ to) (short : h ≤ to - from) (long : to - from ≤ h + h) where
+    place_halves : (p : ℕ) → every (λ i. both_zero l from (to - h) i p) 0 h ≡ zero_between l p from to
+    unfolding zero_between
+    place_halves p =
+        let e : p + (to - h) ≡ p + from + (to - from - h) = omega arith in
+        every_both (λ i. is_zero l (p + from + i)) (λ i. is_zero l (p + (to - h) + i)) 0 h
+        ∙ rw (from_place (p + from) h, from_place (p + (to - h)) h, e) (every_halves (is_zero l) (p + from) (to - from) h short long)
 
-  two_parts : (a b : ℕ)
-      → ((zero_from l a h && zero_from l b h) && (zero_from l (a + (n - h)) h && zero_from l (b + (n - h)) h))
-      ≡ (zero_from l a n && zero_from l b n)
-  two_parts a b = halves_more (zero_from l a h) (zero_from l (a + (n - h)) h) (zero_from l a n) b (every_halves (is_zero l) a n h short long)
+    pub zero_halves : (places : List ℕ) → every (λ i. list_all (both_zero l from (to - h) i) places) 0 h ≡ zero_in l places from to
+    unfolding zero_in
+    zero_halves places =
+        every_element (both_zero l from (to - h)) places 0 h
+        ∙ list_all_same (λ p. every (λ i. both_zero l from (to - h) i p) 0 h) (λ p. zero_between l p from to) places place_halves
 
-  three_parts : (a b c : ℕ)
-      → ((zero_from l a h && zero_from l b h && zero_from l c h) && (zero_from l (a + (n - h)) h && zero_from l (b + (n - h)) h && zero_from l (c + (n - h)) h))
-      ≡ (zero_from l a n && zero_from l b n && zero_from l c n)
-  three_parts a b c =
-      halves_more (zero_from l a h && zero_from l b h) (zero_from l (a + (n - h)) h && zero_from l (b + (n - h)) h) (zero_from l a n && zero_from l b n) c
-      (two_parts a b)
+zero_append : (l xs ys : List ℕ) (from to : ℕ) → zero_in l (xs ++ ys) from to ≡ (zero_in l xs from to && zero_in l ys from to)
+unfolding zero_in
+zero_append l xs ys from to = list_all-append (λ p. zero_between l p from to) xs ys
 
-  pub three_halves : (a b c : ℕ)
-      → (every (three_zero l a b c) 0 h && every (three_zero l (a + (n - h)) (b + (n - h)) (c + (n - h))) 0 h)
-      ≡ (zero_from l a n && zero_from l b n && zero_from l c n)
-  three_halves a b c = rw (every_three l h a b c, every_three l h (a + (n - h)) (b + (n - h)) (c + (n - h))) (three_parts a b c)
+-- of the first places, and of the others
+pub zero_split : (l xs ys : List ℕ) (from to : ℕ) → zero_in l (xs ++ ys) from to ≡ true → (zero_in l xs from to ≡ true) × (zero_in l ys from to ≡ true)
+zero_split l xs ys from to e = and_parts (zero_in l xs from to) (zero_in l ys from to) (sym (zero_append l xs ys from to) ∙ e)
 
-  pub four_halves : (a b c d : ℕ)
-      → (every (four_zero l a b c d) 0 h && every (four_zero l (a + (n - h)) (b + (n - h)) (c + (n - h)) (d + (n - h))) 0 h)
-      ≡ (zero_from l a n && zero_from l b n && zero_from l c n && zero_from l d n)
-  four_halves a b c d =
-      rw (every_four l h a b c d, every_four l h (a + (n - h)) (b + (n - h)) (c + (n - h)) (d + (n - h)))
-      (halves_more (zero_from l a h && zero_from l b h && zero_from l c h)
-      (zero_from l (a + (n - h)) h && zero_from l (b + (n - h)) h && zero_from l (c + (n - h)) h)
-      (zero_from l a n && zero_from l b n && zero_from l c n) d (three_parts a b c))
+-- what holds of each place
+pub zero_parts : (l places : List ℕ) (from to : ℕ) → zero_in l places from to ≡ true → AllTrue (map (λ p. zero_between l p from to) places)
+unfolding zero_in
+zero_parts l [] from to e = tt
+zero_parts l (p ∷ ps) from to e =
+    (and_left (zero_between l p from to) (zero_in l ps from to) e, zero_parts l ps from to (and_right (zero_between l p from to) (zero_in l ps from to) e))
 
-  -- both runs of two places at once
-  pub two_halves : (a b : ℕ) → every (four_zero l a b (a + (n - h)) (b + (n - h))) 0 h ≡ (zero_from l a n && zero_from l b n)
-  two_halves a b =
-      every_four l h a b (a + (n - h)) (b + (n - h))
-      ∙ and_assoc (zero_from l a h && zero_from l b h) (zero_from l (a + (n - h)) h) (zero_from l (b + (n - h)) h)
-      ∙ two_parts a b
-
--- two places, each given twice
-pub two_same : (l : List ℕ) (n a b : ℕ) → every (four_zero l a b a b) 0 n ≡ (zero_from l a n && zero_from l b n)
-two_same l n a b =
-    every_four l n a b a b
-    ∙ and_assoc (zero_from l a n && zero_from l b n) (zero_from l a n) (zero_from l b n)
-    ∙ and_self (zero_from l a n && zero_from l b n)
+pub zero_all : (l places : List ℕ) (from to : ℕ) → AllTrue (map (λ p. zero_between l p from to) places) → zero_in l places from to ≡ true
+unfolding zero_in
+zero_all l [] from to r = refl
+zero_all l (p ∷ ps) from to r = and_both (zero_between l p from to) (zero_in l ps from to) r.0 (zero_all l ps from to r.1)
 
 -- a number is within its bound where it is above it by 0
 pub within_bound : (x most : ℕ) → eqb (x - most) 0 ≡ leb x most

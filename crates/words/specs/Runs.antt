@@ -1,5 +1,6 @@
 -- What holds, adds up or is listed over a run of numbers: n of them, from s on.
-use Rattle.std.specs.Prelude.{ℕ, zero, suc, ◌+◌, ◌%◌, Bool, true, ◌&&◌, List, [], ◌∷◌, eqb}
+use Rattle.std.specs.Prelude.{ℕ, zero, suc, ◌+◌, ◌-◌, ◌%◌, Bool, true, ◌&&◌, List, [], ◌∷◌, eqb}
+use Rattle.std.specs.List.{list_all}
 use Rattle.words.specs.Words.{word_at}
 
 -- the test passes at every number of the run
@@ -22,13 +23,13 @@ module _ {A : Type 0} where
 unfoldable pub is_zero : List ℕ → ℕ → Bool
 is_zero l k = eqb (word_at l k) 0
 
--- the words at a number past three places are 0
-unfoldable pub three_zero : List ℕ → (a b c : ℕ) → ℕ → Bool
-three_zero l a b c i = is_zero l (a + i) && is_zero l (b + i) && is_zero l (c + i)
+-- the words from number `from` up to `to` past a place are 0
+unfoldable pub zero_between : List ℕ → (place from to : ℕ) → Bool
+zero_between l place from to = every (is_zero l) (place + from) (to - from)
 
--- the words at a number past four places are 0
-unfoldable pub four_zero : List ℕ → (a b c d : ℕ) → ℕ → Bool
-four_zero l a b c d i = is_zero l (a + i) && is_zero l (b + i) && is_zero l (c + i) && is_zero l (d + i)
+-- past each of these places
+unfoldable pub zero_in : List ℕ → (places : List ℕ) → (from to : ℕ) → Bool
+zero_in l places from to = list_all (λ place. zero_between l place from to) places
 
 -- the lower byte of word k
 unfoldable pub low_at : List ℕ → ℕ → ℕ

@@ -6,7 +6,7 @@ use native.Mathlib.Nat.{zero-add}
 use mathlib.Core.Path.{◌≡◌, refl, sym, ap, ◌∙◌}
 use mathlib.Core.Bool.{Bool, true, false, false≢true, true≢false, not, cond, ◌&&◌}
 use mathlib.Core.List.{List, [], ◌∷◌, ◌++◌}
-use mathlib.Core.Option.{Option, none, some}
+use Rattle.std.specs.Prelude.{Option, None, Some}
 use lib.Dec.{leb, ltb}
 use lib.ListN.{length, get_or, drop, drop_of_length-le}
 use lib.Seq.{drop-cons}
@@ -50,13 +50,13 @@ with_append test (e ∷ es) fs = go (test e.meaning) refl (with_append test es f
     go false q ih = rw (q, ih)
 
 -- no entry passes the test
-with_none : (test : DetailRead → Bool) (i : ℕ) (es : List (Entry DetailRead)) → earliest test i (meanings_in es) ≡ none → names_with test es ≡ []
+with_none : (test : DetailRead → Bool) (i : ℕ) (es : List (Entry DetailRead)) → earliest test i (meanings_in es) ≡ None → names_with test es ≡ []
 unfolding names_with
 with_none test i [] h = refl
 with_none test i (e ∷ es) h = go (test e.meaning) refl h (with_none test (suc i) es)
   where
-    go : (b : Bool) → test e.meaning ≡ b → cond b (some i) (earliest test (suc i) (meanings_in es)) ≡ none
-        → (earliest test (suc i) (meanings_in es) ≡ none → names_with test es ≡ []) → names_with test (e ∷ es) ≡ []
+    go : (b : Bool) → test e.meaning ≡ b → cond b (Some i) (earliest test (suc i) (meanings_in es)) ≡ None
+        → (earliest test (suc i) (meanings_in es) ≡ None → names_with test es ≡ []) → names_with test (e ∷ es) ≡ []
     go true q p ih = let z : ◌≡◌ {A = ℕ} 0 1 = cc in absurd (let y : ⊥ = omega arith in y)
     go false q p ih = rw q (ih p)
 
@@ -116,13 +116,13 @@ latin1_length i h =
 
 -- the search goes on through the list
 module _ (test : DetailRead → Bool) (rs : List DetailRead) (i : ℕ) where
-  pub value_here : i < length rs → test (get_or rs i DetailRead.Unknown) ≡ true → earliest test i (drop i rs) ≡ some i
+  pub value_here : i < length rs → test (get_or rs i DetailRead.Unknown) ≡ true → earliest test i (drop i rs) ≡ Some i
   value_here h e = rw (drop-cons rs i DetailRead.Unknown h, e)
 
   pub value_later : i < length rs → test (get_or rs i DetailRead.Unknown) ≡ false → earliest test i (drop i rs) ≡ earliest test (i + 1) (drop (i + 1) rs)
   value_later h e = rw (drop-cons rs i DetailRead.Unknown h, e, add-one)
 
-  pub value_nowhere : length rs ≤ i → earliest test i (drop i rs) ≡ none
+  pub value_nowhere : length rs ≤ i → earliest test i (drop i rs) ≡ None
   value_nowhere h = rw (drop_of_length-le rs h)
 
 abbrev pub meaning_at : ℕ → DetailRead
@@ -141,13 +141,13 @@ meaning_value i h =
     rw zero-add at (run_at meaning_at (λ i. DetailRead.Value (get_or detail_values i 0)) 0 buttons_at DetailRead.Unknown values_test i h)
 
 -- what is found passes the test
-earliest_passes : (test : DetailRead → Bool) (i n : ℕ) (rs : List DetailRead) → earliest test i rs ≡ some n
+earliest_passes : (test : DetailRead → Bool) (i n : ℕ) (rs : List DetailRead) → earliest test i rs ≡ Some n
     → (k : ℕ) × (n ≡ i + k) × (k < length rs) × (test (get_or rs k DetailRead.Unknown) ≡ true)
 earliest_passes test i n [] e = let z : ◌≡◌ {A = ℕ} 0 1 = cc in absurd (let y : ⊥ = omega arith in y)
 earliest_passes test i n (r ∷ rs) e = go (test r) refl e (earliest_passes test (suc i) n rs)
   where
-    go : (b : Bool) → test r ≡ b → cond b (some i) (earliest test (suc i) rs) ≡ some n
-        → (earliest test (suc i) rs ≡ some n → (k : ℕ) × (n ≡ suc i + k) × (k < length rs) × (test (get_or rs k DetailRead.Unknown) ≡ true))
+    go : (b : Bool) → test r ≡ b → cond b (Some i) (earliest test (suc i) rs) ≡ Some n
+        → (earliest test (suc i) rs ≡ Some n → (k : ℕ) × (n ≡ suc i + k) × (k < length rs) × (test (get_or rs k DetailRead.Unknown) ≡ true))
         → (k : ℕ) × (n ≡ i + k) × (k < suc (length rs)) × (test (get_or (r ∷ rs) k DetailRead.Unknown) ≡ true)
     go true q p ih = let z : i ≡ n = cc in (0, omega arith, omega arith, q)
     go false q p ih = let x = ih p in (suc x.0, omega (arith, x.1), omega (arith, x.2), x.3)
@@ -161,7 +161,7 @@ module _ (v : ℕ) where
   abbrev found : Option ℕ
   found = earliest (is_value v) 0 (meanings_in keysym_entries)
 
-  found_written : (n : ℕ) → found ≡ some n → (n < buttons_at) × (name_row n ≡ keysym_text v)
+  found_written : (n : ℕ) → found ≡ Some n → (n < buttons_at) × (name_row n ≡ keysym_text v)
   found_written n e =
       let x = earliest_passes (is_value v) 0 n (meanings_in keysym_entries) e in
       let k : n ≡ x.0 = omega (arith, x.1) in
@@ -180,25 +180,25 @@ module _ (v : ℕ) where
   row_written h = go found refl h
     where
       go : (o : Option ℕ) → found ≡ o → place_or_past o < buttons_at → name_row (place_or_past o) ≡ keysym_text v
-      go (some n) e k = (found_written n e).1
-      go none e k = absurd (omega arith)
+      go (Some n) e k = (found_written n e).1
+      go None e k = absurd (omega arith)
 
-  none_found : buttons_at ≤ keysym_place v → found ≡ none
+  none_found : buttons_at ≤ keysym_place v → found ≡ None
   unfolding keysym_place
   none_found h = go found refl h
     where
-      go : (o : Option ℕ) → found ≡ o → buttons_at ≤ place_or_past o → found ≡ none
-      go (some n) e k = absurd (let y : ⊥ = omega (arith, (found_written n e).0) in y)
-      go none e k = e
+      go : (o : Option ℕ) → found ≡ o → buttons_at ≤ place_or_past o → found ≡ None
+      go (Some n) e k = absurd (let y : ⊥ = omega (arith, (found_written n e).0) in y)
+      go None e k = e
 
-  none_placed : first_place v ≡ NamePlace.Nowhere → earliest (is_value v) 0 (meanings_in latin1_entries) ≡ none
+  none_placed : first_place v ≡ NamePlace.Nowhere → earliest (is_value v) 0 (meanings_in latin1_entries) ≡ None
   unfolding first_place
   none_placed h = go (earliest (is_value v) 0 (meanings_in latin1_entries)) refl h
     where
       go : (o : Option ℕ) → earliest (is_value v) 0 (meanings_in latin1_entries) ≡ o → place_given o ≡ NamePlace.Nowhere
-          → earliest (is_value v) 0 (meanings_in latin1_entries) ≡ none
-      go (some n) e k = let z : ◌≡◌ {A = ℕ} 0 1 = cc in absurd (let y : ⊥ = omega arith in y)
-      go none e k = e
+          → earliest (is_value v) 0 (meanings_in latin1_entries) ≡ None
+      go (Some n) e k = let z : ◌≡◌ {A = ℕ} 0 1 = cc in absurd (let y : ⊥ = omega arith in y)
+      go None e k = e
 
   -- a value without a name of either list
   pub number_written : first_place v ≡ NamePlace.Nowhere → buttons_at ≤ keysym_place v → hexadecimal v ≡ keysym_text v

@@ -1,6 +1,5 @@
 -- The place of a keysym's name in the table of names.
-use Rattle.std.specs.Prelude.{ℕ}
-use Rattle.std.proofs.Math.Option.{Option, none, some}
+use Rattle.std.specs.Prelude.{ℕ, Option, None, Some}
 use Rattle.model.specs.Lists.{earliest}
 use Rattle.model.specs.Details.{keysym_entries}
 use Rattle.model.specs.Canonical.{is_value}
@@ -8,8 +7,8 @@ use Rattle.names.specs.Places.{buttons_at}
 use Rattle.names.specs.Table.{meanings_in}
 
 abbrev pub place_or_past : Option ℕ → ℕ
-place_or_past (some i) = i
-place_or_past none = buttons_at
+place_or_past (Some i) = i
+place_or_past None = buttons_at
 
 -- that of the first name of document 01's list that stands for a value; past these names where none does. The list has the first
 -- places of the table.

@@ -1,3 +1,3 @@
 pub mod Overlay
-pub mod Unpacked
 pub mod KeyNames
+pub mod Steps

@@ -1,10 +1,15 @@
 // Texts put into lent bytes. Each function writes its text at a position as far as it lies within the bytes, and returns the
-// position past it: on few bytes it measures the text, on enough it writes it.
-ghost use Rattle.std.specs.Prelude.{cond, [], ◌∷◌, ◌+◌, ◌≤◌, ◌<◌, length, take, drop};
+// position past it: on few bytes it measures the text, on enough it writes it. The two go as two arguments: one value of both
+// would hold a `&mut`, and each contract would have to say that it is still the same borrow.
+ghost use Rattle.std.specs.Prelude.{ℕ, List, cond, [], ◌∷◌, ◌+◌, ◌*◌, ◌≤◌, ◌<◌, length, take, drop};
+ghost use Rattle.words.specs.Runs.{run};
+ghost use Rattle.model.specs.Canonical.{joined_by};
 ghost use Rattle.names.specs.Places.{name_total};
 ghost use Rattle.names.specs.Table.{name_row, longest_name};
 ghost use Rattle.writing.specs.Overlay.{Put, separator};
-ghost use Rattle.writing.specs.Unpacked.{unpacked};
+ghost use Rattle.writing.specs.Steps.{PutsEach, MayPut};
+
+use names::table::{Spelling, spelling_at};
 
 // The one store.
 pub fn put_byte(out: &mut [u8], at: usize, b: u8) -> usize
@@ -13,7 +18,6 @@ pub fn put_byte(out: &mut [u8], at: usize, b: u8) -> usize
 {
     if at < out.len() {
         out[at] = b;
-        return at + 1;
     }
     at + 1
 }
@@ -34,38 +38,36 @@ pub fn put_separator(out: &mut [u8], at: usize, n: usize, b: u8) -> usize
     requires { at ≤ 9000000000 }
     ensures { (Put out.old out.new at result (separator b n)) × (result ≤ at + 1) }
 {
-    if n > 0 {
-        return put_byte(out, at, b);
-    }
-    at
+    put_if(out, at, n > 0, b)
 }
 
 // A part of a text.
 pub fn put_part(out: &mut [u8], at: usize, text: &[u8], start: usize, len: usize) -> usize
-    requires { (at ≤ 9000000000) × (start + len ≤ length text.now) × (len ≤ 8192) }
+    requires { (at ≤ 9010000000) × (start + len ≤ length text.now) × (len ≤ 8192) }
     ensures { (Put out.old out.new at result (take len (drop start text.now))) × (result ≤ at + 8192) }
 {
     let mut next = at;
-    let mut i: usize = 0;
-    while i < len {
-        next = put_byte(out, next, text[start + i]);
-        i += 1;
+    for &b in &text[start..start + len] {
+        next = put_byte(out, next, b);
     }
     next
 }
 
-// The n lowest bytes of a number, the lowest first.
-fn put_packed(out: &mut [u8], at: usize, v: u64, n: usize) -> usize
-    requires { (at ≤ 9010000000) × (n ≤ 8) }
-    ensures { (Put out.old out.new at result (unpacked n v)) × (result ≤ at + 8) }
+// n texts, a byte between each two. `step` puts the k-th at a position and returns the position past it.
+pub fn put_joined<F: Fn(&mut [u8], usize, usize) -> usize>(
+    out: &mut [u8],
+    at: usize,
+    n: usize,
+    b: u8,
+    step: F,
+) -> usize
+    requires { MayPut F.Fn step n at }
+    ensures { (text : ℕ → List ℕ) → (width : ℕ) → PutsEach F.Fn step n text width → (Put out.old out.new at result (joined_by (b ∷ []) (run text 0 n))) × (result ≤ at + (width + 1) * n) }
 {
     let mut next = at;
-    let mut rest = v;
-    let mut left = n;
-    while left > 0 {
-        next = put_byte(out, next, (rest % 256) as u8);
-        rest = rest / 256;
-        left -= 1;
+    for k in 0..n {
+        next = put_separator(out, next, k, b);
+        next = step(out, next, k);
     }
     next
 }
@@ -75,13 +77,7 @@ pub fn put_name(out: &mut [u8], at: usize, place: usize) -> usize
     requires { (at ≤ 9000000000) × (place < name_total) }
     ensures { (Put out.old out.new at result (name_row place)) × (result ≤ at + longest_name) }
 {
-    let name = names::table::spelling_at(place);
-    let len = name.0;
-    let low = name.1;
-    let high = name.2;
-    if len <= 8 {
-        return put_packed(out, at, low, len);
-    }
-    let next = put_packed(out, at, low, 8);
-    put_packed(out, next, high, len - 8)
+    let Spelling(len, low, high) = spelling_at(place);
+    let next = put_part(out, at, &low.to_le_bytes(), 0, len.min(8));
+    put_part(out, next, &high.to_le_bytes(), 0, len.saturating_sub(8))
 }

@@ -9,13 +9,10 @@ fn digit_byte(v: u32) -> u8
     requires { v < 16 }
     ensures { result ≡ digit v }
 {
-    if v < 10 {
-        return (48 + v) as u8;
-    }
-    (87 + v) as u8
+    b"0123456789abcdef"[v as usize]
 }
 
-// At most `fuel` digits. The digits before the last are those of the number without it.
+// At most `fuel` digits. The digits before the last are those of the number without it; a loop would come to the last one first.
 fn put_digits(out: &mut [u8], at: usize, base: u32, fuel: usize, v: u32) -> usize
     requires { (at ≤ 9000000000) × (2 ≤ base) × (base ≤ 16) × (fuel ≤ 9) }
     ensures { (Put out.old out.new at result (digits_in base fuel v)) × (result ≤ at + fuel) }

@@ -1,6 +1,5 @@
 -- `acting::act` meets its contract.
-use mathlib.Core.Path.{sym, ap, ◌∙◌}
-use Rattle.model.specs.Numbers.{record_number}
+use mathlib.Core.Path.{sym, ◌∙◌}
 use Rattle.model.specs.Demand.{MatchCall}
 use Rattle.records.proofs.Ranges.{read_ranges}
 use Rattle.tables.specs.Reading.{decode}
@@ -17,7 +16,7 @@ returns-in_default c =
     let p = c.requires in
     c.refused.ensures
     ∙ refused_record (decode c.args.table.now) within setting p.0.1.mapped p.0.1.good call c.args.state p.1
-    c.in_default.field-0 (sym c.in_default.ensures.answer) c.number_of.result (c.number_of.ensures ∙ ap record_number c.read_record-read.ensures.answer)
+    c.in_default.field-0 (sym c.in_default.ensures.answer)
 
 pub has_type-requires : goal.has_type-requires
 has_type-requires c = c.requires.0.0

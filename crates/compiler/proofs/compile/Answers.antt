@@ -1,7 +1,7 @@
 use mathlib.Core.Path.{◌≡◌, sym, ap, ◌∙◌}
 use Prim.Native.Nat.{ℕ}
 use mathlib.Core.List.{List, ◌++◌}
-use mathlib.Core.Option.{none, some}
+use Rattle.std.specs.Prelude.{None, Some}
 use lib.ListN.{drop}
 use Rattle.model.specs.Bytes.{first_bad_byte}
 use Rattle.model.specs.Compiling.{outcome_answer}
@@ -38,7 +38,7 @@ returns-in-At c =
     let out = c.args.table.now in
     let h = c.if-table-lt-TABLE_LENGTH.false in
     let p = c.in-At.place in
-    let b : first_bad_byte text ≡ some p = sym c.first_bad_byte.ensures ∙ ap bad_byte_of c.in-At.is in
+    let b : first_bad_byte text ≡ Some p = sym c.first_bad_byte.ensures ∙ ap bad_byte_of c.in-At.is in
     let e = bad_byte_lem text p c.if-text-gt8192.false b in
     let t =
     answered text out _ _
@@ -51,7 +51,7 @@ returns-in-Absent c =
     let text = c.args.text.now in
     let out = c.args.table.now in
     let h = c.if-table-lt-TABLE_LENGTH.false in
-    let b : first_bad_byte text ≡ none = sym c.first_bad_byte.ensures ∙ ap bad_byte_of c.in-Absent.is in
+    let b : first_bad_byte text ≡ None = sym c.first_bad_byte.ensures ∙ ap bad_byte_of c.in-Absent.is in
     let e = good_bytes text c.if-text-gt8192.false b in
     let x = c.compile_lines.ensures in
     let t =

@@ -1,42 +1,10 @@
 -- `filter::reach_paired` meets its contract.
-use native.Mathlib.Omega.{arith}
-use mathlib.Core.Path.{◌≡◌}
-use Rattle.tables.specs.Reading.{event_total}
+use borrow.Author.Rules.{rules}
+use Prim.Native.Nat.{zero-le}
 use Rattle.filter.specs.Filter.{pairs}
-use Rattle.fields.proofs.TableFacts.{table_facts}
-use Rattle.filter.proofs.FilterLaws.{ended_start, ended_step, ended_end}
 use Rattle.filter.proofs.reach_paired.Goals as goal
-
-pub event_count-n-requires : goal.event_count-n-requires
-event_count-n-requires c = (table_facts _ c.requires).long
-
-pub loop-i-init : goal.loop-i-init
-loop-i-init c =
-    let a = c.args in
-    let f = (table_facts _ c.requires).events in
-    (omega arith, omega (arith, c.event_count-n.ensures), ended_start (pairs a.table.now a.one a.two))
-
-pub pairs-holds-requires : goal.pairs-holds-requires
-pairs-holds-requires c = ((table_facts _ c.requires).long, omega (arith, c.loop-i.invariant.1))
-
-pub end_at-high-requires : goal.end_at-high-requires
-end_at-high-requires c = omega (arith, c.loop-i-test.true, c.loop-i.invariant.1)
-
-pub overflow_add-i : goal.overflow_add-i
-overflow_add-i c = omega (arith, c.loop-i.invariant.0, c.loop-i.invariant.1)
-
-pub loop-i-smaller : goal.loop-i-smaller
-loop-i-smaller c = omega (arith, c.loop-i-test.true)
-
-pub loop-i-preserved : goal.loop-i-preserved
-loop-i-preserved c =
-    let a = c.args in
-    let v = c.loop-i in
-    (omega (arith, c.loop-i-test.true), v.invariant.1, ended_step (pairs a.table.now a.one a.two) v.i v.high v.invariant.2 c.pairs-holds.result c.pairs-holds.ensures c.end_at-high.result c.end_at-high.ensures)
 
 pub returns : goal.returns
 returns c =
-    let a = c.args in
-    let v = c.loop-i in
-    let q : v.i ≡ event_total a.table.now = omega (arith, v.invariant.0, c.event_count-n.ensures, c.loop-i-test.false) in
-    ended_end (pairs a.table.now a.one a.two) v.i (event_total a.table.now) v.high v.invariant.2 q
+    rw (← c.event_count.ensures)
+    (λ i h q. (zero-le, (c.reach_by.ensures (pairs c.args.table.now c.args.one c.args.two) (λ k r m p. search rules) i h q).1))

@@ -1,9 +1,12 @@
 -- `keyboard::lock_gives` meets its contract.
-use Rattle.keyboard.proofs.Pairs.{lock_cared, lock_either}
+use borrow.Author.Rules.{rules}
+use lib.Dec.{eqb}
+use Rattle.model.specs.Keyboard.{keysym_of}
+use Rattle.keyboard.specs.Pairs.{lock_gives}
 use Rattle.keyboard.proofs.lock_gives.Goals as goal
 
-pub returns-then-cares : goal.returns-then-cares
-returns-then-cares c = rw (c.if-cares.true, lock_cared, ← c.keysym_of.ensures)
-
 pub returns : goal.returns
-returns c = rw (c.if-cares.false, lock_either, ← c.keysym_of-2.ensures, ← c.keysym_of-3.ensures)
+unfolding lock_gives
+returns c =
+    let a = c.args in
+    c.under_either.ensures (λ l. eqb (keysym_of a.pair.first a.pair.second a.shift l) a.detail) (λ l r p. search rules)

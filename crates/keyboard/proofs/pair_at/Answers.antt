@@ -1,5 +1,5 @@
 -- `keyboard::pair_at` meets its contract.
-use Prim.Native.Nat.{ℕ, ◌-◌, ◌*◌, ◌+◌, ◌≤◌, ◌<◌}
+use Prim.Native.Nat.{ℕ, ◌-◌, ◌*◌, ◌+◌, ◌≤◌}
 use native.Mathlib.Omega.{arith}
 use mathlib.Core.Path.{ap₂, ◌∙◌}
 use lib.ListN.{length}
@@ -16,7 +16,7 @@ pub returns : goal.returns
 returns c =
     let a = c.args in
     let l : 1984 ≤ length a.maps.now = map_bytes_lem a.maps.now c.requires.0 in
-    let h : 2 * (a.keycode - 8) < 495 = omega (arith, c.ranges.keycode.fits) in
+    let b = c.ranges.keycode.fits in
     ap₂ (λ (p q : ℕ). record { first = p; second = q })
-    (c.number_from.ensures ∙ number_at a.maps.now l (2 * (a.keycode - 8)) (8 * (a.keycode - 8)) (omega arith) (omega arith))
-    (c.number_from-2.ensures ∙ number_at a.maps.now l (2 * (a.keycode - 8) + 1) (8 * (a.keycode - 8) + 4) (omega arith) (omega arith))
+    (c.number_from.ensures ∙ number_at a.maps.now l (2 * (a.keycode - 8)) (8 * (c.from.result - 8)) (omega arith) (omega arith))
+    (c.number_from-2.ensures ∙ number_at a.maps.now l (2 * (a.keycode - 8) + 1) (8 * (c.from.result - 8) + 4) (omega arith) (omega arith))

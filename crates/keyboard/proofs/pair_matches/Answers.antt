@@ -1,14 +1,17 @@
 -- `keyboard::pair_matches` meets its contract.
-use Rattle.keyboard.proofs.Pairs.{with_colon, no_colon_lem}
+use borrow.Author.Rules.{rules}
+use mathlib.Core.Bool.{◌||◌}
+use mathlib.Core.Path.{◌∙◌}
+use Rattle.model.specs.Modifiers.{bit}
+use Rattle.keyboard.specs.Pairs.{lock_gives}
+use Rattle.keyboard.proofs.Pairs.{asked_either}
 use Rattle.keyboard.proofs.pair_matches.Goals as goal
-
-pub returns-then-colon : goal.returns-then-colon
-returns-then-colon c =
-    rw (c.if-colon.true, with_colon)
-    (cc (c.keysym_of.ensures, c.bit-lock.ensures, c.bit-shift.ensures))
 
 pub returns : goal.returns
 returns c =
-    rw (c.if-colon.false, no_colon_lem)
-    (cc
-    (c.pair_gives.ensures, c.bit-4.ensures, c.bit-3.ensures, c.bit-2.ensures, c.bit.ensures, c.bit-lock.ensures, c.bit-shift.ensures))
+    let p = c.args.pair in
+    let t = c.args.test in
+    let state = c.args.state in
+    c.under_either.ensures (λ s. lock_gives p.first p.second s (t.colon || bit 1 t.set || bit 1 t.clear) (bit 1 state) t.detail)
+    (λ s r h. search rules)
+    ∙ cc (asked_either t.set t.clear t.colon p.first p.second state t.detail)

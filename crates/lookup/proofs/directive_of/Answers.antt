@@ -2,7 +2,7 @@
 use Prim.Native.Nat.{◌-◌}
 use native.Mathlib.Omega.{arith}
 use mathlib.Core.Path.{sym, ap, ◌∙◌}
-use mathlib.Core.Option.{none, some}
+use Rattle.std.specs.Prelude.{None, Some}
 use Rattle.model.specs.declared.events.Directive.{Directive}
 use Rattle.names.specs.Places.{directives_at, none_at}
 use Rattle.lookup.specs.Find.{meaning_of, directive_meaning}
@@ -16,10 +16,10 @@ overflow_sub-i c =
 
 pub returns-in-At : goal.returns-in-At
 returns-in-At c =
-    ap (λ (d : Directive). some d) c.directive_at.ensures
-    ∙ ap (meaning_of directive_meaning none) (sym c.in-At.is ∙ c.find.ensures)
+    ap (λ (d : Directive). Some d) c.directive_at.ensures
+    ∙ ap (meaning_of directive_meaning None) (sym c.in-At.is ∙ c.find.ensures)
     ∙ directive_found c.args.line.now
 
 pub returns-in-Nothing : goal.returns-in-Nothing
 returns-in-Nothing c =
-    ap (meaning_of directive_meaning none) (sym c.in-Nothing.is ∙ c.find.ensures) ∙ directive_found c.args.line.now
+    ap (meaning_of directive_meaning None) (sym c.in-Nothing.is ∙ c.find.ensures) ∙ directive_found c.args.line.now

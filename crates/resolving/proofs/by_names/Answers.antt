@@ -18,10 +18,10 @@ returns c =
     let hyper = named_modifier e hyper_name 0xffed 0xffee in
     let alt = named_modifier e alt_name 0xffe9 0xffea in
     c.with_modifier.ensures
-    ∙ gathered_more setting (named_modifier e meta_name 0xffe7 0xffe8) (alt ∷ hyper ∷ super ∷ keysyms) c.with_modifier-seven.result
-    (c.with_modifier-seven.ensures
-    ∙ gathered_more setting alt (hyper ∷ super ∷ keysyms) c.with_modifier-six.result
-    (c.with_modifier-six.ensures
-    ∙ gathered_more setting hyper (super ∷ keysyms) c.with_modifier-five.result
-    (c.with_modifier-five.ensures
-    ∙ gathered_more setting super keysyms c.by_keysyms-four.result c.by_keysyms-four.ensures)))
+    ∙ gathered_more setting (named_modifier e meta_name 0xffe7 0xffe8) (alt ∷ hyper ∷ super ∷ keysyms) _
+    (c.with_modifier-so-3.ensures
+    ∙ gathered_more setting alt (hyper ∷ super ∷ keysyms) _
+    (c.with_modifier-so-2.ensures
+    ∙ gathered_more setting hyper (super ∷ keysyms) _
+    (c.with_modifier-so.ensures
+    ∙ gathered_more setting super keysyms _ c.by_keysyms-so.ensures)))

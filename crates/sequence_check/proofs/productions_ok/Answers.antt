@@ -1,34 +1,16 @@
 -- `sequence_check::productions_ok` meets its contract.
-use borrow.Author.Rules.{rules}
-use native.Mathlib.Omega.{arith}
-use mathlib.Core.Path.{◌≡◌, refl, ◌∙◌}
-use Rattle.sequence_check.specs.Sequences.{production_ok}
+use Rattle.std.proofs.Common.{arith, rules, ◌+◌, ◌≤◌}
 use Rattle.words.specs.Words.{word_at}
-use Rattle.words.specs.Runs.{every, total}
-use Rattle.words.proofs.RunLaws.{every_more, total_more, total_part}
-use native.Mathlib.Nat.{zero-add}
+use Rattle.words.specs.Runs.{total}
+use Rattle.words.proofs.RunLaws.{every_part, total_part}
 use Rattle.tables.specs.Layout.{production_events_at}
+use Rattle.event_check.specs.Events.{event_ok}
 use Rattle.sequence_check.proofs.productions_ok.Goals as goal
 
-pub loop-p-init : goal.loop-p-init
-unfolding every total
-loop-p-init c = (search rules, (search rules, search rules, search rules), refl, refl)
-
+-- the production's events are among all
 pub sizes-requires : goal.sizes-requires
 sizes-requires c =
-    let w = total_part (word_at c.args.l.now) production_events_at c.loop-p.p c.args.n (omega arith) in
-    (search rules, omega (arith, w, c.word_at-events.ensures, c.loop-p.invariant.2))
-
-pub overflow_add-from : goal.overflow_add-from
-overflow_add-from c =
-    let w = total_part (word_at c.args.l.now) production_events_at c.loop-p.p c.args.n (omega arith) in
-    omega (arith, w, c.word_at-events.ensures, c.loop-p.invariant.2)
-
-pub loop-p-preserved : goal.loop-p-preserved
-unfolding production_ok
-loop-p-preserved c = (search rules, (search rules, search rules, search rules), rw (total_more, c.word_at-events.ensures, c.loop-p.invariant.2), rw (every_more, zero-add, c.sizes.ensures, c.word_at-events.ensures, c.word_at.ensures, c.loop-p.invariant.2, c.loop-p.invariant.3))
-
-pub returns : goal.returns
-returns c =
-    let e : c.loop-p.p ≡ c.args.n = omega arith in
-    c.loop-p.invariant.3 ∙ rw e
+    let all = total (word_at c.args.l.now) production_events_at c.args.n in
+    let w : c.loop-p.from + c.from-events.result ≤ all =
+    omega (arith, total_part (word_at c.args.l.now) production_events_at c.loop-p.p c.args.n c.loop-p-test.true, c.loop-p.invariant.from, c.from-events.ensures, c.word_at.ensures) in
+    (search rules, omega arith, every_part (event_ok c.args.l.now) c.loop-p.from c.from-events.result all c.requires.3 w)

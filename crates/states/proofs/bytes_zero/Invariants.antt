@@ -1,12 +1,9 @@
 -- `states::bytes_zero` meets its contract.
-use Prim.Native.Nat.{◌≤◌, ◌-◌}
 use mathlib.Core.Path.{◌≡◌}
-use Rattle.words.specs.Runs.{every}
-use Rattle.states.specs.State.{byte_zero}
+use lib.Dec.{eqb}
+use lib.ListN.{take}
+use Rattle.std.specs.List.{list_all}
 use Rattle.states.proofs.bytes_zero.Given as goal
 
-abbrev pub invariant-loop-i : goal.invariant-loop-i
-invariant-loop-i l = (l.i ≤ l.n) × (l.clean ≡ every (byte_zero l.l) l.k l.i)
-
-abbrev pub decreases-loop-i : goal.decreases-loop-i
-decreases-loop-i l = l.n - l.i
+abbrev pub invariant-loop-b : goal.invariant-loop-b
+invariant-loop-b l = l.clean ≡ list_all (λ b. eqb b 0) (take l.b-index l.bytes)

@@ -21,7 +21,7 @@ unused_ok-requires c =
 pub slots_ok-requires : goal.slots_ok-requires
 slots_ok-requires c =
     let h : HeaderFacts c.args.l.now = header_facts c.args.l.now (sym c.header_ok.ensures ∙ c.if-not-header_ok.false) in
-    (search rules, omega (arith, h.events, c.word_at-events.ensures))
+    (search rules, omega (arith, h.events, c.from-events.ensures, c.word_at.ensures))
 
 pub entries_ok-requires : goal.entries_ok-requires
 entries_ok-requires c =
@@ -30,5 +30,5 @@ entries_ok-requires c =
 
 pub returns : goal.returns
 returns c =
-    rw (c.unused_ok.ensures, c.slots_ok.ensures, c.entries_ok.ensures, c.word_at-events.ensures)
+    rw (c.unused_ok.ensures, c.slots_ok.ensures, c.entries_ok.ensures, c.from-events.ensures, c.word_at.ensures)
     (sym (checks_last c.args.l.now (omega arith) (sym c.header_ok.ensures ∙ c.if-not-header_ok.false)) ∙ checks_exact c.args.l.now (λ i. omega (arith, c.type_inv.l i)))

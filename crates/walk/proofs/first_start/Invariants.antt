@@ -1,5 +1,4 @@
 -- `walk::first_start` meets its contract.
-use Prim.Native.Nat.{◌-◌, ◌≤◌}
 use mathlib.Core.Path.{◌≡◌}
 use lib.ListN.{take, drop}
 use Rattle.model.specs.Matching.{reading_of}
@@ -11,8 +10,5 @@ use Rattle.walk.proofs.first_start.Given as goal
 
 abbrev pub invariant-loop-at : goal.invariant-loop-at
 invariant-loop-at l =
-    (l.from ≤ l.at) × (l.at ≤ l.to)
-    × (longest_end (reading_of (decode l.table) (lent_setting l.maps l.limit)) (drop l.from (take l.to (slots_of l.events))) ≡ longest_end (reading_of (decode l.table) (lent_setting l.maps l.limit)) (drop l.at (take l.to (slots_of l.events))))
-
-abbrev pub decreases-loop-at : goal.decreases-loop-at
-decreases-loop-at l = l.to - l.at
+    longest_end (reading_of (decode l.table) (lent_setting l.maps l.limit)) (drop l.from (take l.to (slots_of l.events)))
+    ≡ longest_end (reading_of (decode l.table) (lent_setting l.maps l.limit)) (drop l.at (take l.to (slots_of l.events)))

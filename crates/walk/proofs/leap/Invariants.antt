@@ -1,10 +1,7 @@
 -- `walk::leap` meets its contract.
-use Prim.Native.Nat.{◌-◌}
+use Prim.Native.Nat.{◌*◌}
 use Rattle.walk.specs.Walk.{Skipped}
 use Rattle.walk.proofs.leap.Given as goal
 
-abbrev pub invariant-loop-p : goal.invariant-loop-p
-invariant-loop-p l = Skipped l.table l.low l.at l.p
-
-abbrev pub decreases-loop-p : goal.decreases-loop-p
-decreases-loop-p l = l.n - l.p
+abbrev pub invariant-loop-i : goal.invariant-loop-i
+invariant-loop-i l = Skipped l.table l.low l.at (16 * l.i)

@@ -11,9 +11,6 @@ use Rattle.states.proofs.SlotLaws.{length_slots, in_slot}
 use Rattle.filter.proofs.FilterLaws.{outside_code, outside_begins, outside_pairs}
 use Rattle.walk.proofs.reach_of.Goals as goal
 
-pub reach_of_code-requires : goal.reach_of_code-requires
-reach_of_code-requires c = c.requires.0.is_whole
-
 pub returns-then-one-gt3 : goal.returns-then-one-gt3
 returns-then-one-gt3 c =
     let a = c.args in
@@ -21,12 +18,6 @@ returns-then-one-gt3 c =
     let l = a.table.now in
     outside_code (map_numbers a.maps.now) l (table_facts l p.0.is_whole) (λ k. omega (arith, c.type_inv.table k)) (slots_of a.events.now) a.from a.to
     (length_slots a.events.now) p.0.room p.1 p.0.ranges a.one p.2 c.reach_of_code.result.low c.reach_of_code.result.high c.reach_of_code.ensures
-
-pub overflow_add-from : goal.overflow_add-from
-overflow_add-from c = omega (arith, c.requires.0.room, c.requires.1)
-
-pub reach_alone-requires : goal.reach_alone-requires
-reach_alone-requires c = c.requires.0.is_whole
 
 pub returns-then-from-to : goal.returns-then-from-to
 returns-then-from-to c =
@@ -36,14 +27,6 @@ returns-then-from-to c =
     outside_begins (map_numbers a.maps.now) l (table_facts l p.0.is_whole) (λ k. omega (arith, c.type_inv.table k)) (slots_of a.events.now) a.from a.to
     (length_slots a.events.now) p.0.room p.1 p.0.ranges a.one p.2 c.reach_alone.result.low c.reach_alone.result.high c.reach_alone.ensures
 
-pub overflow_add-from-2 : goal.overflow_add-from-2
-overflow_add-from-2 c = omega (arith, c.requires.0.room, c.requires.1)
-
-pub event_at-requires : goal.event_at-requires
-event_at-requires c =
-    let next : c.args.from + 1 < c.args.to = let d : c.args.from + 1 ≡ c.args.to → ⊥ = c.if-from-to.false in omega (arith, c.requires.1) in
-    omega (arith, c.requires.0.room, c.requires.0.long, next)
-
 pub sought_of-two-requires : goal.sought_of-two-requires
 sought_of-two-requires c =
     let next : c.args.from + 1 < c.args.to = let d : c.args.from + 1 ≡ c.args.to → ⊥ = c.if-from-to.false in omega (arith, c.requires.1) in
@@ -51,9 +34,6 @@ sought_of-two-requires c =
     let m : c.args.from + 1 < 25 = omega (arith, c.requires.0.room, next) in
     c.event_at.ensures ∙ in_slot c.args.events.now (c.args.from + 1) m in
     (c.requires.0.mapped.mapped, rw next_is (c.requires.0.ranges (c.args.from + 1) next))
-
-pub reach_paired-requires : goal.reach_paired-requires
-reach_paired-requires c = c.requires.0.is_whole
 
 pub returns : goal.returns
 returns c =

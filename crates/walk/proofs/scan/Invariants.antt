@@ -1,5 +1,4 @@
 -- `walk::scan` meets its contract.
-use Prim.Native.Nat.{◌-◌}
 use lib.ListN.{take, drop}
 use Rattle.keyboard.specs.Maps.{lent_setting}
 use Rattle.states.specs.State.{slots_of}
@@ -9,6 +8,3 @@ use Rattle.walk.proofs.scan.Given as goal
 abbrev pub invariant-loop-p : goal.invariant-loop-p
 invariant-loop-p l =
     Passing (lent_setting l.maps l.limit) l.table (drop l.from (take l.to (slots_of l.events))) l.seen l.at l.p
-
-abbrev pub decreases-loop-p : goal.decreases-loop-p
-decreases-loop-p l = l.n - l.p

@@ -1,7 +1,7 @@
 -- `walk::sixteen` meets its contract.
 use Prim.Native.Nat.{◌+◌, ◌≤◌, ◌<◌}
 use native.Mathlib.Omega.{arith}
-use mathlib.Core.Path.{◌≡◌, refl, sym, ap, ap₂, ◌∙◌}
+use mathlib.Core.Path.{◌≡◌, refl, sym, ap₂, ◌∙◌}
 use Rattle.words.specs.Runs.{total}
 use Rattle.words.proofs.RunLaws.{total_more}
 use Rattle.tables.specs.Reading.{production_total, production_events}
@@ -11,7 +11,7 @@ use Rattle.walk.proofs.sixteen.Goals as goal
 
 pub loop-i-init : goal.loop-i-init
 unfolding total
-loop-i-init c = (omega arith, omega arith, refl)
+loop-i-init c = (omega arith, refl)
 
 pub overflow_add-p : goal.overflow_add-p
 overflow_add-p c =
@@ -35,14 +35,8 @@ overflow_add-sum c =
     let small : c.loop-i.sum + c.word_at-sum.result ≤ 256 =
     let l = c.args.table.now in
     let h : c.args.p + c.loop-i.i < production_total l = omega (arith, c.requires.1, c.loop-i-test.true) in
-    omega (arith, span_most l (table_facts l c.requires.0) c.args.p c.loop-i.i h, c.loop-i.invariant.2, word) in
+    omega (arith, span_most l (table_facts l c.requires.0) c.args.p c.loop-i.i h, c.loop-i.invariant.1, word) in
     omega (arith, small)
-
-pub overflow_add-i : goal.overflow_add-i
-overflow_add-i c = omega (arith, c.loop-i-test.true)
-
-pub loop-i-smaller : goal.loop-i-smaller
-loop-i-smaller c = omega (arith, c.loop-i-test.true)
 
 pub loop-i-preserved : goal.loop-i-preserved
 unfolding production_events
@@ -51,17 +45,7 @@ loop-i-preserved c =
     let small : c.loop-i.sum + c.word_at-sum.result ≤ 256 =
     let l = c.args.table.now in
     let h : c.args.p + c.loop-i.i < production_total l = omega (arith, c.requires.1, c.loop-i-test.true) in
-    omega (arith, span_most l (table_facts l c.requires.0) c.args.p c.loop-i.i h, c.loop-i.invariant.2, word) in
+    omega (arith, span_most l (table_facts l c.requires.0) c.args.p c.loop-i.i h, c.loop-i.invariant.1, word) in
     let a = c.args in
     let v = c.loop-i in
-    (omega (arith, c.loop-i-test.true), small, ap₂ ◌+◌ v.invariant.2 word ∙ sym (total_more (production_events a.table.now) a.p v.i))
-
-pub overflow_cast-result : goal.overflow_cast-result
-overflow_cast-result c = omega (arith, c.loop-i.invariant.1)
-
-pub returns : goal.returns
-returns c =
-    let a = c.args in
-    let v = c.loop-i in
-    let q : v.i ≡ 16 = omega (arith, c.loop-i-test.false, v.invariant.0) in
-    v.invariant.2 ∙ ap (total (production_events a.table.now) a.p) q
+    (small, ap₂ ◌+◌ v.invariant.1 word ∙ sym (total_more (production_events a.table.now) a.p v.i))

@@ -8,15 +8,6 @@ use Rattle.walk.proofs.skip.Goals as goal
 pub production_count-n-requires : goal.production_count-n-requires
 production_count-n-requires c = (table_facts _ c.requires).long
 
-pub leap-spot-requires : goal.leap-spot-requires
-leap-spot-requires c = (c.requires, c.production_count-n.ensures)
-
-pub loop-p-init : goal.loop-p-init
-loop-p-init c = c.leap-spot.ensures
-
-pub returns-then-low-at : goal.returns-then-low-at
-returns-then-low-at c = c.loop-p.invariant
-
 pub production_events-at-requires : goal.production_events-at-requires
 production_events-at-requires c =
     let f = table_facts _ c.requires in
@@ -31,17 +22,6 @@ overflow_add-at c =
     c.production_count-n.ensures c.loop-p-test.true c.loop-p.invariant.place c.production_events-at.ensures in
     omega (arith, place.small)
 
-pub overflow_add-p : goal.overflow_add-p
-overflow_add-p c =
-    let l = c.args.table.now in
-    let place : Place l c.loop-p.at c.loop-p.p c.production_events-at.result =
-    place_of l (table_facts l c.requires) c.loop-p.at c.loop-p.p c.production_events-at.result c.production_count-n.result
-    c.production_count-n.ensures c.loop-p-test.true c.loop-p.invariant.place c.production_events-at.ensures in
-    omega (arith, place.few)
-
-pub loop-p-smaller : goal.loop-p-smaller
-loop-p-smaller c = omega (arith, c.loop-p-test.true)
-
 pub loop-p-preserved : goal.loop-p-preserved
 loop-p-preserved c =
     let l = c.args.table.now in
@@ -51,6 +31,3 @@ loop-p-preserved c =
     let v = c.loop-p in
     let h : v.at < c.args.low = omega (arith, c.if-low-at.false) in
     skipped_step c.args.table.now c.args.low v.at v.p c.production_events-at.result v.invariant h place.there place.is_size
-
-pub returns : goal.returns
-returns c = c.loop-p.invariant

@@ -1,10 +1,10 @@
 -- `acting::moves::heard` meets its contract.
 use Prim.Native.Nat.{◌+◌, ◌≤◌}
 use native.Mathlib.Omega.{arith}
-use mathlib.Core.Path.{◌≡◌, refl, sym, ◌∙◌}
+use mathlib.Core.Path.{sym, ◌∙◌}
 use borrow.Author.Tests.{not-true, not-false}
 use Rattle.tables.specs.Reading.{decode}
-use Rattle.walk.specs.declared.Passed.{Passed}
+use Rattle.walk.proofs.PassLaws.{some_read}
 use Rattle.follow.specs.Follow.{WalkReady}
 use Rattle.keyboard.specs.Maps.{lent_setting}
 use Rattle.states.proofs.StateLaws.{state_facts}
@@ -128,7 +128,7 @@ restart-requires-in-No c =
     -- its mark lies within it
     let marked : left.result.selected ≤ left.result.kept =
     left_within (decode c.args.table.now) setting c.args.state facts c.args.x left.result (left.ensures (decode c.args.table.now) setting) in
-    (ready, omega (arith, c.used_up.ensures, marked))
+    (ready, omega (arith, c.max.ensures, marked))
 
 pub returns-in-No : goal.returns-in-No
 returns-in-No c =
@@ -137,24 +137,13 @@ returns-in-No c =
     let l = c.left_for-left in
     c.restart-in-No.ensures
     ∙ heard_no (decode c.args.table.now) setting c.args.state facts c.args.x l.result (l.ensures (decode c.args.table.now) setting) c.put_event.new.out c.put_event.ensures
-    c.pass.result c.used_up.result (not-false _ c.if-not-left.false) c.pass.ensures c.in-No.is c.used_up.ensures
+    c.pass.result c.max.result (not-false _ c.if-not-left.false) c.pass.ensures c.in-No.is (omega arith)
 
-pub returns-in-Prefix : goal.returns-in-Prefix
-returns-in-Prefix c =
+pub returns-in_default : goal.returns-in_default
+returns-in_default c =
     let facts = state_facts c.args.state c.requires.1.0 in
     let setting = lent_setting c.args.maps.now c.args.limit in
     let l = c.left_for-left in
-    let q : c.pass.result ≡ Passed.Prefix = c.in-Prefix.is in
     c.answered.ensures
     ∙ heard_yes (decode c.args.table.now) setting c.args.state facts c.args.x l.result (l.ensures (decode c.args.table.now) setting) c.put_event.new.out c.put_event.ensures
-    Passed.Prefix (not-false _ c.if-not-left.false) (sym q ∙ c.pass.ensures) refl
-
-pub returns-in-Chosen : goal.returns-in-Chosen
-returns-in-Chosen c =
-    let facts = state_facts c.args.state c.requires.1.0 in
-    let setting = lent_setting c.args.maps.now c.args.limit in
-    let l = c.left_for-left in
-    let q = c.in-Chosen.is in
-    c.answered-in-Chosen.ensures
-    ∙ heard_yes (decode c.args.table.now) setting c.args.state facts c.args.x l.result (l.ensures (decode c.args.table.now) setting) c.put_event.new.out c.put_event.ensures
-    (Passed.Chosen c.in-Chosen.p) (not-false _ c.if-not-left.false) (sym q ∙ c.pass.ensures) refl
+    c.pass.result (not-false _ c.if-not-left.false) c.pass.ensures (some_read c.pass.result c.in_default.not-No)

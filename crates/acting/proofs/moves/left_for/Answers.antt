@@ -1,5 +1,6 @@
 -- `acting::moves::left_for` meets its contract.
-use mathlib.Core.Path.{sym, ◌∙◌}
+use mathlib.Core.Path.{refl, sym, ◌∙◌}
+use mathlib.Core.Bool.{true}
 use Rattle.acting.proofs.MoveLaws.{replaced_some, left_short, left_same, left_nothing}
 use Rattle.acting.proofs.moves.left_for.Goals as goal
 
@@ -19,8 +20,8 @@ returns-then-replaces c t setting =
 pub returns-then-open : goal.returns-then-open
 returns-then-open c t setting =
     let a = c.args in
-    left_same a.events.now a.kept a.selected a.«open» a.x c.requires.1 t setting
-    (sym c.replaces.ensures ∙ c.if-replaces.false) c.if-open.true
+    rw c.if-open.true
+    (left_same a.events.now a.kept a.selected true a.x c.requires.1 t setting (sym c.replaces.ensures ∙ c.if-replaces.false) refl)
 
 pub returns : goal.returns
 returns c t setting =

@@ -1,13 +1,14 @@
 -- `capi::state::put_mark` meets its contract.
+use Prim.Native.Nat.{◌%◌, ◌/◌}
 use native.Mathlib.Omega.{arith}
-use lib.ListN.{length-set}
+use mathlib.Core.Path.{◌≡◌, ◌∙◌}
 use Rattle.words.specs.Words.{put_word}
-use borrow.Author.Rules.{rules}
 use Rattle.capi.proofs.state.put_mark.Goals as goal
-
-pub bounds-out-k-2 : goal.bounds-out-k-2
-bounds-out-k-2 c = simp length-set (omega arith)
 
 pub returns : goal.returns
 unfolding put_word
-returns c = search rules
+returns c =
+    let n = c.args.n in
+    let low : n % 65536 % 256 ≡ n % 256 = omega arith in
+    let high : n % 65536 / 256 % 256 ≡ n / 256 % 256 = omega arith in
+    c.put_word.ensures ∙ rw (low, high)

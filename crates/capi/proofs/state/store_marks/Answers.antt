@@ -16,6 +16,6 @@ returns c =
     c.put_mark-3.ensures
     ∙ ap₂ (λ (l : List ℕ) (n : ℕ). put_word l 2 n)
     (c.put_mark-2.ensures ∙ ap (λ (l : List ℕ). put_word l 1 a.selected) c.put_mark.ensures)
-    (open_word a.«open»)
+    (c.from.ensures ∙ open_word a.«open»)
     )
     ∙ put_four a.out.now a.kept a.selected (cond a.«open» 1 0) 0 (omega (arith, c.requires))

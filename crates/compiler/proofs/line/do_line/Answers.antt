@@ -1,7 +1,7 @@
 use native.Mathlib.Omega.{arith}
 use Prim.Native.Nat.{◌-◌}
 use mathlib.Core.Path.{◌≡◌, sym, ap, ◌∙◌}
-use mathlib.Core.Option.{Option, none, some}
+use Rattle.std.specs.Prelude.{Option, None, Some}
 use lib.ListN.{length, take, drop, length-drop}
 use lib.Seq.{length-take-le}
 use Rattle.model.specs.Lines.{line_at, directive_at}
@@ -39,14 +39,14 @@ pub returns-in-Found : goal.returns-in-Found
 returns-in-Found c u =
     let a = c.args in
     let d = c.in-Found.directive in
-    let e : directive_at a.text.now a.at ≡ some d = sym c.directive_at.ensures ∙ ap directive_given c.in-Found.is in
+    let e : directive_at a.text.now a.at ≡ Some d = sym c.directive_at.ensures ∙ ap directive_given c.in-Found.is in
     stepped u.rest _ _ (ap (λ (o : Option Directive). line_step o a.s.directive u.ps a.at (line_at a.text.now a.at)) e)
     (ap (λ (t : Totals). LineDone.Done (record { directive = d; totals = t })) u.totals, u.bytes)
 
 pub returns-in-Absent : goal.returns-in-Absent
 returns-in-Absent c u =
     let a = c.args in
-    let e : directive_at a.text.now a.at ≡ none = sym c.directive_at.ensures ∙ ap directive_given c.in-Absent.is in
+    let e : directive_at a.text.now a.at ≡ None = sym c.directive_at.ensures ∙ ap directive_given c.in-Absent.is in
     let w = line_part a.text.now a.at a.end c.requires.0.2 in
     stepped u.rest _ _
     (ap (λ (o : Option Directive). line_step o a.s.directive u.ps a.at (line_at a.text.now a.at)) e ∙ ap (plain_step a.s.directive u.ps a.at) (sym w))

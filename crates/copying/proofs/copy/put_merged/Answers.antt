@@ -2,8 +2,8 @@
 use borrow.Author.Rules.{rules}
 use native.Mathlib.Omega.{arith}
 use Rattle.tally.proofs.WholeFacts as facts
-use Rattle.tally.specs.Counting.{TallyRoom}
 use Rattle.copying.specs.Copying.{put_merged}
+use Rattle.copying.proofs.Directives.{kept_put}
 use Rattle.copying.proofs.copy.put_merged.Goals as goal
 
 pub first_length-first-requires : goal.first_length-first-requires
@@ -12,22 +12,12 @@ first_length-first-requires c = facts.long c.args.old.now c.requires.0.0
 pub first_length-second-requires : goal.first_length-second-requires
 first_length-second-requires c = facts.long c.args.new.now c.requires.0.1
 
-pub copy_merged-t-requires : goal.copy_merged-t-requires
-copy_merged-t-requires c = (c.requires.0, (search rules, c.requires.1.1))
-
 pub put_texts-requires : goal.put_texts-requires
 put_texts-requires c =
     let a = facts.first_short c.args.old.now c.requires.0.0 in
     let b = facts.first_short c.args.new.now c.requires.0.1 in
     (search rules, (omega (arith, c.first_length-first.ensures), omega (arith, c.first_length-second.ensures)))
 
-pub put_counts-requires : goal.put_counts-requires
-put_counts-requires c =
-    let e = c.copy_merged-t.ensures.0 in
-    let r = c.requires.1.1 in
-    let R : TallyRoom c.copy_merged-t.result = rw e r in
-    (search rules, (omega (arith, R.productions), omega (arith, R.events), omega (arith, R.calls), omega (arith, R.parameters)))
-
 pub returns : goal.returns
 unfolding put_merged
-returns c = rw (c.put_counts.ensures, c.put_texts.ensures, c.copy_merged-t.ensures.1, c.copy_merged-t.ensures.0, c.first_length-second.ensures, c.first_length-first.ensures)
+returns c = rw (c.put_counts.ensures, c.put_texts.ensures, c.take_merged-t.ensures.1, kept_put, c.take_merged-t.ensures.0, c.first_length-second.ensures, c.first_length-first.ensures)

@@ -1,35 +1,15 @@
 -- `states::slots::put_event` meets its contract.
 use native.Mathlib.Omega.{arith}
-use mathlib.Core.Path.{refl}
-use lib.ListN.{length-set}
+use Prim.Native.Nat.{◌/◌, ◌%◌}
+use mathlib.Core.Path.{◌≡◌, ◌∙◌}
 use Rattle.states.proofs.SlotLaws.{stores}
 use Rattle.states.proofs.slots.put_event.Goals as goal
 
-pub bounds-out-at-2 : goal.bounds-out-at-2
-bounds-out-at-2 c = simp length-set (omega arith)
-
-pub bounds-out-at-3 : goal.bounds-out-at-3
-bounds-out-at-3 c = simp length-set (omega arith)
-
-pub bounds-out-at-4 : goal.bounds-out-at-4
-bounds-out-at-4 c = simp length-set (omega arith)
-
-pub bounds-out-at-5 : goal.bounds-out-at-5
-bounds-out-at-5 c = simp length-set (omega arith)
-
-pub bounds-out-at-6 : goal.bounds-out-at-6
-bounds-out-at-6 c = simp length-set (omega arith)
-
-pub bounds-out-at-7 : goal.bounds-out-at-7
-bounds-out-at-7 c = simp length-set (omega arith)
-
-pub bounds-out-at-8 : goal.bounds-out-at-8
-bounds-out-at-8 c = simp length-set (omega arith)
-
-pub shape_of-out : goal.shape_of-out
-shape_of-out c = simp length-set refl
-
 pub returns : goal.returns
 returns c =
-    let a = c.args in
-    stores a.out.now a.j a.x
+    let x = c.args.x in
+    let s : x.state / 256 % 256 ≡ x.state / 256 = omega arith in
+    let t : x.time / 16777216 % 256 ≡ x.time / 16777216 = omega arith in
+    stores c.args.out.now _ _ c.args.j _ _ x c.requires (omega arith) (omega arith)
+    (c.copy_from_slice.ensures.after ∙ rw (c.to_le_bytes.ensures, s))
+    (c.copy_from_slice-2.ensures.after ∙ rw (c.to_le_bytes-2.ensures, t))

@@ -1,5 +1,4 @@
 -- `tally::count::expanded_of` meets its contract. The invariant: the sum and what the events that are left stand for make up the whole.
-use borrow.Author.Rules.{rules}
 use native.Mathlib.Omega.{arith}
 use Prim.Native.Nat.{◌+◌, ◌-◌}
 use mathlib.Core.Path.{◌≡◌, refl, sym, ap, ◌∙◌}
@@ -7,7 +6,7 @@ use mathlib.Core.List.{[]}
 use lib.ListN.{length, length-append}
 use Rattle.words.specs.Runs.{run}
 use Rattle.tables.specs.Reading.{event_entry}
-use Rattle.tally.proofs.Steps.{run_done, run_start, expanded_next}
+use Rattle.tally.proofs.Steps.{run_done, expanded_next}
 use Rattle.model.specs.Counts.{elements_of, expanded}
 use Rattle.counts.specs.Elements.{element_count}
 use Rattle.tally.proofs.ElementSizes.{element_size, count_small, range_at}
@@ -16,9 +15,6 @@ use Rattle.tally.proofs.count.expanded_of.Goals as goal
 none_expanded : length (expanded []) ≡ 0
 unfolding expanded
 none_expanded = refl
-
-pub loop-i-init : goal.loop-i-init
-loop-i-init c = (search rules, c.requires, search rules, rw (run_start (event_entry c.args.l.now) c.args.from c.args.n) (omega arith))
 
 pub element_count-s-requires : goal.element_count-s-requires
 element_count-s-requires c = rw c.event_at-e.ensures (range_at (event_entry c.args.l.now) c.args.from c.args.n c.loop-i.i c.requires.2 c.loop-i-test.true)
@@ -47,9 +43,9 @@ loop-i-preserved c =
     let m = ap length (expanded_next f from n i c.loop-i-test.true) in
     let a = length-append (elements_of (f (from + i))) (expanded (run f (from + (i + 1)) (n - (i + 1)))) in
     let z = element_size (f (from + i)) in
-    (search rules, c.requires, omega arith, omega (arith, c.loop-i.invariant.3))
+    (omega arith, omega (arith, c.loop-i.invariant.1))
 
 pub returns : goal.returns
 returns c =
     let d : run (event_entry c.args.l.now) (c.args.from + c.loop-i.i) (c.args.n - c.loop-i.i) ≡ [] = run_done (event_entry c.args.l.now) (c.args.from + c.loop-i.i) c.args.n c.loop-i.i (omega arith) in
-    sym (c.loop-i.invariant.3 ∙ rw (d, none_expanded) (omega arith))
+    sym (c.loop-i.invariant.1 ∙ rw (d, none_expanded) (omega arith))

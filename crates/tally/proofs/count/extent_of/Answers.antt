@@ -6,25 +6,46 @@ use Rattle.tally.specs.Counting.{extent_at}
 use Rattle.tally.proofs.count.extent_of.Goals as goal
 
 pub calls_from-call-requires : goal.calls_from-call-requires
-calls_from-call-requires c = let w = c.requires.0 in let z = facts.long c.args.l.now w in let x = facts.few_productions c.args.l.now w in let y = facts.few_calls c.args.l.now w in let v = facts.calls_in c.args.l.now w c.args.p c.requires.1 in (z, omega arith)
+calls_from-call-requires c =
+    let b = facts.bounds c.args.l.now c.requires.0 in
+    let v = facts.calls_in c.args.l.now c.requires.0 c.args.p c.requires.1 in
+    (b.long, omega arith)
 
 pub production_calls-calls-requires : goal.production_calls-calls-requires
-production_calls-calls-requires c = let w = c.requires.0 in let z = facts.long c.args.l.now w in let x = facts.few_productions c.args.l.now w in let y = facts.few_calls c.args.l.now w in let v = facts.calls_in c.args.l.now w c.args.p c.requires.1 in (z, omega arith)
+production_calls-calls-requires c =
+    let b = facts.bounds c.args.l.now c.requires.0 in
+    let v = facts.calls_in c.args.l.now c.requires.0 c.args.p c.requires.1 in
+    (b.long, omega arith)
 
 pub parameters_from-parameter-requires : goal.parameters_from-parameter-requires
-parameters_from-parameter-requires c = let w = c.requires.0 in let z = facts.long c.args.l.now w in let x = facts.few_productions c.args.l.now w in let y = facts.few_calls c.args.l.now w in let v = facts.calls_in c.args.l.now w c.args.p c.requires.1 in (z, omega (arith, c.calls_from-call.ensures))
+parameters_from-parameter-requires c =
+    let b = facts.bounds c.args.l.now c.requires.0 in
+    let v = facts.calls_in c.args.l.now c.requires.0 c.args.p c.requires.1 in
+    (b.long, omega (arith, c.calls_from-call.ensures))
 
 pub overflow_add-call : goal.overflow_add-call
-overflow_add-call c = let w = c.requires.0 in let z = facts.long c.args.l.now w in let x = facts.few_productions c.args.l.now w in let y = facts.few_calls c.args.l.now w in let v = facts.calls_in c.args.l.now w c.args.p c.requires.1 in omega (arith, c.calls_from-call.ensures, c.production_calls-calls.ensures)
+overflow_add-call c =
+    let b = facts.bounds c.args.l.now c.requires.0 in
+    let v = facts.calls_in c.args.l.now c.requires.0 c.args.p c.requires.1 in
+    omega (arith, c.calls_from-call.ensures, c.production_calls-calls.ensures)
 
 pub parameters_from-end-requires : goal.parameters_from-end-requires
-parameters_from-end-requires c = let w = c.requires.0 in let z = facts.long c.args.l.now w in let x = facts.few_productions c.args.l.now w in let y = facts.few_calls c.args.l.now w in let v = facts.calls_in c.args.l.now w c.args.p c.requires.1 in (z, omega (arith, c.calls_from-call.ensures, c.production_calls-calls.ensures))
+parameters_from-end-requires c =
+    let b = facts.bounds c.args.l.now c.requires.0 in
+    let v = facts.calls_in c.args.l.now c.requires.0 c.args.p c.requires.1 in
+    (b.long, omega (arith, c.calls_from-call.ensures, c.production_calls-calls.ensures))
 
 pub events_from-requires : goal.events_from-requires
-events_from-requires c = let w = c.requires.0 in let z = facts.long c.args.l.now w in let x = facts.few_productions c.args.l.now w in let y = facts.few_calls c.args.l.now w in let v = facts.calls_in c.args.l.now w c.args.p c.requires.1 in (z, omega arith)
+events_from-requires c =
+    let b = facts.bounds c.args.l.now c.requires.0 in
+    let v = facts.calls_in c.args.l.now c.requires.0 c.args.p c.requires.1 in
+    (b.long, omega arith)
 
 pub production_events-requires : goal.production_events-requires
-production_events-requires c = let w = c.requires.0 in let z = facts.long c.args.l.now w in let x = facts.few_productions c.args.l.now w in let y = facts.few_calls c.args.l.now w in let v = facts.calls_in c.args.l.now w c.args.p c.requires.1 in (z, omega arith)
+production_events-requires c =
+    let b = facts.bounds c.args.l.now c.requires.0 in
+    let v = facts.calls_in c.args.l.now c.requires.0 c.args.p c.requires.1 in
+    (b.long, omega arith)
 
 pub overflow_sub-result : goal.overflow_sub-result
 overflow_sub-result c =

@@ -1,6 +1,0 @@
--- `acting::refused` meets its contract.
-use mathlib.Core.Path.{refl}
-use Rattle.acting.proofs.refused.Goals as goal
-
-pub returns : goal.returns
-returns c = refl

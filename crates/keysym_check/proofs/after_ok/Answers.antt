@@ -1,6 +1,0 @@
--- `keysym_check::after_ok` meets its contract.
-use mathlib.Core.Path.{refl}
-use Rattle.keysym_check.proofs.after_ok.Goals as goal
-
-pub returns : goal.returns
-returns c = refl
