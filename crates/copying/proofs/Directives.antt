@@ -6,18 +6,18 @@ use mathlib.Core.List.{List, [], ◌∷◌, ◌++◌}
 use Rattle.model.specs.Tables.{Production}
 use Rattle.model.specs.declared.events.Directive.{Directive}
 use Rattle.tables.specs.Reading.{production_total}
-use Rattle.tally.specs.Kept.{marked, kept_from, kept_by}
+use Rattle.tally.specs.Kept.{each_marked, kept_from, kept_by}
 use Rattle.tally.specs.Counting.{no_tally, tally_one, tally_all, put_kept}
 use Rattle.tally.specs.declared.count.Tally.{Tally}
 use Rattle.copying.specs.Copying.{put_one, put_all, put_by}
 
 all_more : (s : Bool) (l : List ℕ) (t : Tally) (ps : List Production) (ks : List (Bool × Production))
-    → put_kept put_one l t (marked s ps ++ ks) ≡ put_kept put_one (put_all s l t ps) (tally_all t ps) ks
+    → put_kept put_one l t (each_marked s ps ++ ks) ≡ put_kept put_one (put_all s l t ps) (tally_all t ps) ks
 unfolding put_kept put_all tally_all
 all_more s l t [] ks = refl
 all_more s l t (p ∷ ps) ks = all_more s (put_one s l t p) (tally_one t p) ps ks
 
-all_last : (s : Bool) (l : List ℕ) (t : Tally) (ps : List Production) → put_kept put_one l t (marked s ps) ≡ put_all s l t ps
+all_last : (s : Bool) (l : List ℕ) (t : Tally) (ps : List Production) → put_kept put_one l t (each_marked s ps) ≡ put_all s l t ps
 unfolding put_kept put_all
 all_last s l t [] = refl
 all_last s l t (p ∷ ps) = all_last s (put_one s l t p) (tally_one t p) ps

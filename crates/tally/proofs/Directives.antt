@@ -8,7 +8,7 @@ use Rattle.model.specs.Tables.{Production}
 use Rattle.model.specs.declared.events.Directive.{Directive}
 use Rattle.tables.specs.Reading.{production_total, directive_in}
 use Rattle.tables.specs.Whole.{whole}
-use Rattle.tally.specs.Kept.{marked, kept_from, kept_by}
+use Rattle.tally.specs.Kept.{each_marked, kept_from, kept_by}
 use Rattle.tally.specs.Counting.{no_tally, tally_one, tally_all, tally_by, tally_merged, put_kept, TallyBelow}
 use Rattle.tally.specs.declared.count.Tally.{Tally}
 use Rattle.tally.proofs.Tallies.{kept_below, all_fewer}
@@ -66,7 +66,7 @@ module _ (old new : List ℕ) (Fits : Tally → Type 0) (fewer : (t : Tally) (p 
 
 module _ (put : Bool → List ℕ → Tally → Production → List ℕ) where
   put_more : (s : Bool) (l : List ℕ) (t : Tally) (ps : List Production) (ks : List (Bool × Production))
-      → put_kept put l t (marked s ps ++ ks) ≡ put_kept put (put_kept put l t (marked s ps)) (tally_all t ps) ks
+      → put_kept put l t (each_marked s ps ++ ks) ≡ put_kept put (put_kept put l t (each_marked s ps)) (tally_all t ps) ks
   unfolding put_kept tally_all
   put_more s l t [] ks = refl
   put_more s l t (p ∷ ps) ks = put_more s (put s l t p) (tally_one t p) ps ks
@@ -74,20 +74,20 @@ module _ (put : Bool → List ℕ → Tally → Production → List ℕ) where
   module _ (old new out : List ℕ) where
     pub replace_kept : directive_in new ≡ Directive.Replace
         → (tally_merged old new ≡ tally_all no_tally (kept_from new 0 old 0))
-        × (put_kept put out no_tally (kept_by (directive_in new) old new) ≡ put_kept put out no_tally (marked true (kept_from new 0 old 0)))
+        × (put_kept put out no_tally (kept_by (directive_in new) old new) ≡ put_kept put out no_tally (each_marked true (kept_from new 0 old 0)))
     unfolding tally_merged tally_by kept_by
     replace_kept e = (rw e, rw e)
 
     pub override_kept : directive_in new ≡ Directive.Override
         → (tally_merged old new ≡ tally_all (tally_all no_tally (kept_from new 0 old 0)) (kept_from old 0 new (production_total new)))
         × (put_kept put out no_tally (kept_by (directive_in new) old new)
-        ≡ put_kept put (put_kept put out no_tally (marked true (kept_from new 0 old 0))) (tally_all no_tally (kept_from new 0 old 0)) (marked false (kept_from old 0 new (production_total new))))
+        ≡ put_kept put (put_kept put out no_tally (each_marked true (kept_from new 0 old 0))) (tally_all no_tally (kept_from new 0 old 0)) (each_marked false (kept_from old 0 new (production_total new))))
     unfolding tally_merged tally_by kept_by
     override_kept e = (rw e, rw e (put_more true out no_tally (kept_from new 0 old 0) _))
 
     pub augment_kept : directive_in new ≡ Directive.Augment
         → (tally_merged old new ≡ tally_all (tally_all no_tally (kept_from old 0 new 0)) (kept_from new 0 old (production_total old)))
         × (put_kept put out no_tally (kept_by (directive_in new) old new)
-        ≡ put_kept put (put_kept put out no_tally (marked false (kept_from old 0 new 0))) (tally_all no_tally (kept_from old 0 new 0)) (marked true (kept_from new 0 old (production_total old))))
+        ≡ put_kept put (put_kept put out no_tally (each_marked false (kept_from old 0 new 0))) (tally_all no_tally (kept_from old 0 new 0)) (each_marked true (kept_from new 0 old (production_total old))))
     unfolding tally_merged tally_by kept_by
     augment_kept e = (rw e, rw e (put_more false out no_tally (kept_from old 0 new 0) _))

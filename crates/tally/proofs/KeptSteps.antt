@@ -6,7 +6,7 @@ use mathlib.Core.List.{List}
 use Rattle.model.specs.Tables.{Production}
 use Rattle.model.specs.Merging.{is_among}
 use Rattle.tables.specs.Reading.{production_total, production_entry}
-use Rattle.tally.specs.Kept.{first_of, marked, kept_from}
+use Rattle.tally.specs.Kept.{first_of, each_marked, kept_from}
 use Rattle.tally.specs.Counting.{tally_one, tally_all, put_kept}
 use Rattle.tally.specs.declared.count.Tally.{Tally}
 use Rattle.tally.proofs.Steps.{kept_next, kept_done}
@@ -25,16 +25,16 @@ module _ (l : List ℕ) (p : ℕ) (other : List ℕ) (n : ℕ) where
       pub taken : (o : List ℕ) (u : Tally) → is_among (first_of other n) (production_entry l p) ≡ false
           → u ≡ tally_one t (production_entry l p) → o ≡ put s out t (production_entry l p)
           → (tally_all t (kept_from l p other n) ≡ tally_all u (kept_from l (p + 1) other n))
-          × (put_kept put out t (marked s (kept_from l p other n)) ≡ put_kept put o u (marked s (kept_from l (p + 1) other n)))
+          × (put_kept put out t (each_marked s (kept_from l p other n)) ≡ put_kept put o u (each_marked s (kept_from l (p + 1) other n)))
       unfolding tally_all put_kept
       taken o u e a b = (rw (kept_next l p other n h, e, a), rw (kept_next l p other n h, e, a, b))
 
       pub passed : is_among (first_of other n) (production_entry l p) ≡ true
           → (tally_all t (kept_from l p other n) ≡ tally_all t (kept_from l (p + 1) other n))
-          × (put_kept put out t (marked s (kept_from l p other n)) ≡ put_kept put out t (marked s (kept_from l (p + 1) other n)))
+          × (put_kept put out t (each_marked s (kept_from l p other n)) ≡ put_kept put out t (each_marked s (kept_from l (p + 1) other n)))
       passed e = (rw (kept_next l p other n h, e), rw (kept_next l p other n h, e))
 
   pub none_left : production_total l ≤ p → (put : Bool → List ℕ → Tally → Production → List ℕ) (s : Bool) (out : List ℕ) (t : Tally)
-      → (t ≡ tally_all t (kept_from l p other n)) × (out ≡ put_kept put out t (marked s (kept_from l p other n)))
+      → (t ≡ tally_all t (kept_from l p other n)) × (out ≡ put_kept put out t (each_marked s (kept_from l p other n)))
   unfolding tally_all put_kept
   none_left h put s out t = (rw (kept_done l p other n h), rw (kept_done l p other n h))

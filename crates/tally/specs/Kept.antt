@@ -19,16 +19,16 @@ unfoldable pub kept_from : List ℕ → (p : ℕ) → List ℕ → (n : ℕ) →
 kept_from l p other n = without (first_of other n) (rest_of l p)
 
 -- productions, each with whether its calls are the second text's
-abbrev pub marked : Bool → List Production → List (Bool × Production)
-marked second ps = map (λ p. (second, p)) ps
+abbrev pub each_marked : Bool → List Production → List (Bool × Production)
+each_marked second ps = map (λ p. (second, p)) ps
 
 -- those of a merge in order, by the new table's directive
 unfoldable pub kept_by : Directive → (old new : List ℕ) → List (Bool × Production)
-kept_by Directive.Replace old new = marked true (kept_from new 0 old 0)
+kept_by Directive.Replace old new = each_marked true (kept_from new 0 old 0)
 kept_by Directive.Override old new =
-    marked true (kept_from new 0 old 0) ++ marked false (kept_from old 0 new (production_total new))
+    each_marked true (kept_from new 0 old 0) ++ each_marked false (kept_from old 0 new (production_total new))
 kept_by Directive.Augment old new =
-    marked false (kept_from old 0 new 0) ++ marked true (kept_from new 0 old (production_total old))
+    each_marked false (kept_from old 0 new 0) ++ each_marked true (kept_from new 0 old (production_total old))
 
 -- a call, marked as the first text's or the second's
 abbrev pub marked_call : Bool → Call → Call

@@ -4,7 +4,7 @@ ghost use Rattle.model.specs.Tables.{Production};
 ghost use Rattle.tables.specs.Reading.{production_total, production_entry, directive_in};
 ghost use Rattle.tables.specs.Whole.{whole};
 ghost use Rattle.tally.specs.declared.count.Tally.{Tally};
-ghost use Rattle.tally.specs.Kept.{marked, kept_from, kept_by};
+ghost use Rattle.tally.specs.Kept.{each_marked, kept_from, kept_by};
 ghost use Rattle.tally.specs.Counting.{no_tally, tally_one, tally_all, tally_merged, put_kept};
 
 use crate::compare::is_among;
@@ -37,7 +37,7 @@ fn take_kept<S: Step>(
     before: Tally,
 ) -> Tally
     requires { (whole l.now ≡ true) × ((whole other.now ≡ true) × (n ≤ production_total other.now)) × S.Fits (length out.old) (tally_all before (kept_from l.now 0 other.now n)) }
-    ensures { (result ≡ tally_all before (kept_from l.now 0 other.now n)) × (out.new ≡ put_kept S.put out.old before (marked second (kept_from l.now 0 other.now n))) }
+    ensures { (result ≡ tally_all before (kept_from l.now 0 other.now n)) × (out.new ≡ put_kept S.put out.old before (each_marked second (kept_from l.now 0 other.now n))) }
 {
     let mut t = before;
     for p in 0..tables::read::production_count(l) {
