@@ -110,6 +110,29 @@ total_bound f s (suc n) b h =
     let c = h n (omega arith) in
     rw (suc-mul n b) (omega (arith, a, c))
 
+-- numbers of at least 1
+module _ (f : ℕ → ℕ) (s : ℕ) where
+  total_ge : (n : ℕ) → ((i : ℕ) → i < n → 1 ≤ f (s + i)) → n ≤ total f s n
+  unfolding total
+  total_ge zero h = omega arith
+  total_ge (suc n) h = let a = total_ge n (λ i q. h i (omega arith)) in let b = h n (omega arith) in omega arith
+
+-- that sum to as many as there are, are all 1
+pub all_ones : (f : ℕ → ℕ) (s n i : ℕ) → total f s n ≡ n → ((k : ℕ) → k < n → 1 ≤ f (s + k)) → i < n → f (s + i) ≡ 1
+all_ones f s n i e h q =
+    let split : n ≡ (i + 1) + (n - (i + 1)) = omega arith in
+    let t : total f s n ≡ total f s (i + 1) + total f (s + (i + 1)) (n - (i + 1)) = ap (total f s) split ∙ total_add f s (i + 1) (n - (i + 1)) in
+    let a = total_more f s i in
+    let b = total_ge f s i (λ k p. h k (omega arith)) in
+    let c = total_ge f (s + (i + 1)) (n - (i + 1)) (λ k p. shifted k p) in
+    let d = h i q in
+    omega (arith, t, a, b, c, d, e)
+  where
+    shifted : (k : ℕ) → k < n - (i + 1) → 1 ≤ f (s + (i + 1) + k)
+    shifted k p =
+        let z : s + (i + 1) + k ≡ s + ((i + 1) + k) = omega arith in
+        rw z (h ((i + 1) + k) (omega arith))
+
 -- numbers that sum to 0 are all 0
 pub all_zeros : (f : ℕ → ℕ) (s n i : ℕ) → total f s n ≡ 0 → i < n → f (s + i) ≡ 0
 all_zeros f s n i e h = omega (arith, total_part f s i n h, e)
@@ -136,6 +159,12 @@ all_full f s n i e h q =
     shifted k p =
         let z : s + (i + 1) + k ≡ s + ((i + 1) + k) = omega arith in
         rw z (h ((i + 1) + k) (omega arith))
+
+-- the sum of ones
+pub total_ones : (f : ℕ → ℕ) (s n : ℕ) → ((i : ℕ) → i < n → f (s + i) ≡ 1) → total f s n ≡ n
+unfolding total
+total_ones f s zero h = refl
+total_ones f s (suc n) h = let a = total_ones f s n (λ i q. h i (omega arith)) in let b = h n (omega arith) in omega arith
 
 -- ---- Lists
 

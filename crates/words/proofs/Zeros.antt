@@ -40,6 +40,18 @@ or_zero x y = same_test (eqb (bit_or x y) 0) (eqb x 0 && eqb y 0) there back
 pub or_zero_three : (x y z : ℕ) → eqb (bit_or (bit_or x y) z) 0 ≡ (eqb x 0 && eqb y 0 && eqb z 0)
 or_zero_three x y z = or_zero (bit_or x y) z ∙ ap (λ (t : Bool). t && eqb z 0) (or_zero x y)
 
+-- and where all four are
+pub or_zero_four : (w x y z : ℕ) → eqb (bit_or (bit_or (bit_or w x) y) z) 0 ≡ (eqb w 0 && eqb x 0 && eqb y 0 && eqb z 0)
+or_zero_four w x y z = or_zero (bit_or (bit_or w x) y) z ∙ ap (λ (t : Bool). t && eqb z 0) (or_zero_three w x y)
+
+-- three or four more numbers, joined to what was joined before
+pub three_joined : (j x y z : ℕ) → eqb (bit_or j (bit_or (bit_or x y) z)) 0 ≡ (eqb j 0 && (eqb x 0 && eqb y 0 && eqb z 0))
+three_joined j x y z = or_zero j (bit_or (bit_or x y) z) ∙ ap (λ (t : Bool). eqb j 0 && t) (or_zero_three x y z)
+
+pub four_joined : (j w x y z : ℕ)
+    → eqb (bit_or j (bit_or (bit_or (bit_or w x) y) z)) 0 ≡ (eqb j 0 && (eqb w 0 && eqb x 0 && eqb y 0 && eqb z 0))
+four_joined j w x y z = or_zero j (bit_or (bit_or (bit_or w x) y) z) ∙ ap (λ (t : Bool). eqb j 0 && t) (or_zero_four w x y z)
+
 -- numbers joined are below a power of two where both are
 pub or_below : (k x y : ℕ) → ltb (bit_or x y) (2 ^ k) ≡ (ltb x (2 ^ k) && ltb y (2 ^ k))
 or_below k x y = same_test (ltb (bit_or x y) (2 ^ k)) (ltb x (2 ^ k) && ltb y (2 ^ k)) there back
