@@ -13,7 +13,7 @@ use Rattle.model.specs.Lists.{any}
 use Rattle.model.specs.Modifiers.{bit, bits, mask, is_shift_or_lock, is_testable, asks_bit}
 use Rattle.model.specs.Setting.{Setting}
 use Rattle.model.specs.Named.{no_keysyms, marked_keysym, is_listed}
-use Rattle.model.specs.Resolving.{ListedName, named_keysym, names_of, has_bit, is_unmet, resolves_set, resolves_clear, resolves}
+use Rattle.model.specs.Resolving.{ListedName, named_keysym, names_of, holds_keysym, keycode_holds, row_of, has_bit, is_unmet, resolves_set, resolves_clear, resolves}
 use Rattle.model.specs.Asked.{asks_bit_set, asks_bit_clear, is_unlisted, asked}
 use Rattle.model.specs.declared.events.Detail.{Detail}
 use Rattle.model.specs.declared.events.Keysyms.{Keysyms}
@@ -43,6 +43,18 @@ bits_if : (b : Bool) (f : ℕ → Bool) → mask (λ k. b && f k) ≡ cond b (ma
 bits_if true f = refl
 bits_if false f = mask_none
 
+holds_twice : (keyboard : List ℕ) (v c : ℕ) → keycode_holds keyboard (v ∷ v ∷ []) c ≡ keycode_holds keyboard (v ∷ []) c
+unfolding keycode_holds
+holds_twice keyboard v c = ap (λ (b : Bool). not (eqb c 0) && b) (twice (holds_keysym keyboard c v))
+  where
+    twice : (a : Bool) → a || (a || false) ≡ a || false
+    twice true = refl
+    twice false = refl
+
+same_row : (f g : ℕ → Bool) → ((c : ℕ) → f c ≡ g c) → (row : List ℕ) → any f row ≡ any g row
+same_row f g s [] = refl
+same_row f g s (c ∷ cs) = ap₂ ◌||◌ (s c) (same_row f g s cs)
+
 -- a name that is not listed asks nothing
 pub with_none : (so : Resolved) (m : ℕ) (set clear : Bool) → set || clear ≡ false → with_bits so m set clear ≡ so
 unfolding with_bits
@@ -54,6 +66,15 @@ module _ (setting : Setting) where
   name_bits : (n : ListedName) → mask (has_bit setting n) ≡ bits_of setting n.keysyms
   unfolding bits_of has_bit
   name_bits n = refl
+
+  -- a keysym twice is that keysym
+  pub bits_twice : (v : ℕ) → bits_of setting (v ∷ v ∷ []) ≡ bits_of setting (v ∷ [])
+  unfolding bits_of
+  bits_twice v =
+      same_mask (λ k. any (keycode_holds setting.keyboard (v ∷ v ∷ [])) (row_of setting.modifiers k))
+      (λ k. any (keycode_holds setting.keyboard (v ∷ [])) (row_of setting.modifiers k))
+      (λ k h. same_row (keycode_holds setting.keyboard (v ∷ v ∷ [])) (keycode_holds setting.keyboard (v ∷ []))
+      (holds_twice setting.keyboard v) (row_of setting.modifiers k))
 
   -- ---- Names
 

@@ -7,8 +7,8 @@ use mathlib.Core.Path.{◌≡◌, refl, sym, ap, ◌∙◌}
 use mathlib.Core.Bool.{Bool, true, false, ◌&&◌, ◌||◌}
 use mathlib.Core.List.{List, []}
 use lib.Dec.{eqb, ltb}
-use lib.ListN.{length, take, drop, length-drop, drop_of_length-le}
-use lib.Seq.{drop-drop, take-nil}
+use lib.ListN.{length, get_or, take, drop, length-take, length-drop, drop_of_length-le}
+use lib.Seq.{get_or-take, get_or-drop, drop-drop, take-nil}
 use Rattle.model.specs.Lists.{any}
 use Rattle.model.specs.Modifiers.{mask}
 use Rattle.model.specs.Resolving.{is_bad_map, row_of, keycode_holds}
@@ -18,12 +18,23 @@ use Rattle.modifiers.proofs.Setting.{with_bit_mask}
 use Rattle.keyboard.specs.Maps.{map_numbers, lent_setting}
 use Rattle.keyboard.proofs.Maps.{map_bytes_lem}
 use Rattle.resolving.specs.Gathering.{is_low_entry, MapsReady, bits_of}
-use Rattle.resolving.proofs.Entries.{none_before, none_after}
+use Rattle.resolving.proofs.Entries.{none_passes, none_before, none_after}
 
 -- ---- Entries
 
 pub high_keycode : (c : ℕ) → is_low_entry c ≡ false → (c ≡ 0 → ⊥) → 8 ≤ c
 high_keycode c e f = grind (arith, nat_tests)
+
+-- n entries from a place on
+module _ (l : List ℕ) (from n : ℕ) where
+  pub length_row : from + n ≤ length l → length (take n (drop from l)) ≡ n
+  length_row h = simp (length-take, length-drop) (omega arith)
+
+  pub row_length : (i : ℕ) → from + n ≤ length l → i < n → i < length (take n (drop from l))
+  row_length i h j = rw (length_row h) j
+
+  pub row_entry : (i : ℕ) → i < n → get_or (take n (drop from l)) i 0 ≡ get_or l (from + i) 0
+  row_entry i h = rw (get_or-take, get_or-drop)
 
 -- what a map that 18 does not refuse is
 record GoodMap (map : List ℕ) : Type 0 where
@@ -45,6 +56,13 @@ good_map map e =
 module _ (maps : List ℕ) (ready : MapsReady maps) where
   pub maps_long : 1984 ≤ length maps
   maps_long = map_bytes_lem maps ready.mapped
+
+  pub entry_known : (at : ℕ) → 1984 ≤ at → at < length maps → is_low_entry (get_or maps at 0) ≡ false
+  entry_known at h l =
+      let n : at - 1984 < length (drop 1984 maps) = rw length-drop (omega arith) in
+      let e : 1984 + (at - 1984) ≡ at = omega arith in
+      ap is_low_entry (ap (λ (i : ℕ). get_or maps i 0) (sym e) ∙ sym (get_or-drop 1984 maps (at - 1984) 0))
+      ∙ none_passes is_low_entry (drop 1984 maps) (good_map (drop 1984 maps) ready.good).entries (at - 1984) n
 
   -- ---- Rows
 
