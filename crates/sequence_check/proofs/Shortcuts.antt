@@ -30,6 +30,9 @@ size_more c n h = go (leb n 1) refl (eqb c 3 || eqb c 5) refl
     go false p true q = let m = leb-false n 1 p in rw (p, q) (omega arith)
     go false p false q = let m = leb-false n 1 p in rw (p, q) (omega arith)
 
+pub size_most : (c n : ℕ) → n ≤ 9 → element_count c n ≤ 18
+size_most c n h = count_at_most c n 9 h (omega arith)
+
 -- what an event's count has above 1
 abbrev spare_at : List ℕ → ℕ → ℕ
 spare_at l i = word_at l (counts_at + i) - 1
@@ -57,10 +60,10 @@ module _ (l : List ℕ) (from n : ℕ) (ok : every (event_ok l) from n ≡ true)
   count_high_from = event_at.count_high
 
 module _ (l : List ℕ) (n : ℕ) (ok : every (event_ok l) 0 n ≡ true) where
-  count_low : (i : ℕ) → i < n → 1 ≤ word_at l (counts_at + i)
+  pub count_low : (i : ℕ) → i < n → 1 ≤ word_at l (counts_at + i)
   count_low i h = rw zero-add at (count_low_from l 0 n ok i h)
 
-  count_high_lem : (i : ℕ) → i < n → word_at l (counts_at + i) ≤ 9
+  pub count_high_lem : (i : ℕ) → i < n → word_at l (counts_at + i) ≤ 9
   count_high_lem i h = rw zero-add at (count_high_from l 0 n ok i h)
 
   pub low_counts : total (low_at l) counts_at n ≡ total (word_at l) counts_at n

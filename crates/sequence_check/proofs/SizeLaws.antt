@@ -1,5 +1,5 @@
--- How many events an event stands for, as the code counts them.
-use Prim.Native.Nat.{ℕ, ◌-◌, ◌*◌, ◌≤◌}
+-- How many events an event stands for: bounds, and as the code counts them.
+use Prim.Native.Nat.{ℕ, ◌-◌, ◌*◌, ◌≤◌, ◌<◌}
 use native.Mathlib.Omega.{arith}
 use mathlib.Core.Path.{◌≡◌, refl}
 use mathlib.Core.Bool.{Bool, true, false, ◌||◌, ◌&&◌}
@@ -7,6 +7,10 @@ use lib.Dec.{ltb, eqb}
 use borrow.Author.Tests.{le-leb, lt-leb, ltb-true, ltb-false}
 use Rattle.words.proofs.Bools.{and_left, and_right}
 use Rattle.counts.specs.Elements.{releases, element_count}
+use Rattle.counts.proofs.Elements.{count_at_most}
+
+pub size_below : (c n : ℕ) → n < 65536 → element_count c n ≤ 131070
+size_below c n h = count_at_most c n 65535 (omega arith) (omega arith)
 
 -- an event in range stands for one event less than twice its count, or for twice its count where it is a counted release
 module _ (c n : ℕ) where

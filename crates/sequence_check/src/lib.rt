@@ -78,9 +78,9 @@ fn exact_ok(l: &[u8], n: usize, events: usize, calls: usize) -> bool
 
 // How many events and calls all productions have.
 #[derive(Clone, Copy)]
-struct Sums {
-    events: u16,
-    calls: u16,
+pub struct Sums {
+    pub events: u16,
+    pub calls: u16,
 }
 
 // What the loop over productions finds where each has 1 to `most` events and at most 8 calls. How far each number is past its

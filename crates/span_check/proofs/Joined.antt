@@ -2,7 +2,7 @@
 use Prim.Native.Nat.{ℕ, ◌+◌, ◌-◌}
 use native.Mathlib.Omega.{arith}
 use mathlib.Core.Path.{◌≡◌, refl, ap, ◌∙◌}
-use mathlib.Core.Bool.{Bool, true, false, cond, ◌&&◌}
+use mathlib.Core.Bool.{Bool, true, false, cond, ◌&&◌, and_assoc}
 use lib.Dec.{leb, eqb}
 use lib.Bits.{bit_or}
 use borrow.Author.Tests.{leb-true, le-leb, eqb-true, eq-eqb}
@@ -28,6 +28,13 @@ span_within s n t = same_test (eqb (s - t) 0 && eqb (n - (t - s)) 0) (leb (s + n
 
 pub joined_span : (s n t : ℕ) → eqb (bit_or (s - t) (n - (t - s))) 0 ≡ leb (s + n) t
 joined_span s n t = or_zero (s - t) (n - (t - s)) ∙ span_within s n t
+
+-- one more parameter, joined to the faults b of those before it
+pub joined_parameter : (b s n t : ℕ) → eqb (bit_or (bit_or b (s - t)) (n - (t - s))) 0 ≡ (eqb b 0 && leb (s + n) t)
+joined_parameter b s n t =
+    or_zero_three b (s - t) (n - (t - s))
+    ∙ and_assoc (eqb b 0) (eqb (s - t) 0) (eqb (n - (t - s)) 0)
+    ∙ ap (λ (r : Bool). eqb b 0 && r) (span_within s n t)
 
 -- one more call, joined to the faults b of those before it, where x is 0 if its name is in its text
 pub joined_call : (merged : Bool) (b m s n k most x f g : ℕ) → (merged ≡ false → most ≡ 0)

@@ -126,3 +126,14 @@ pub cleared_holds : (l : List ℕ) → cleared table_length l ≡ image no_entri
 unfolding cleared image sections_of columns
 cleared_holds l =
     ap (λ (a : List ℕ). a ++ drop table_length l) (sym (ap word_bytes (joined_empty capacities) ∙ bytes_zeros 5000))
+
+pub no_room : Room no_entries
+no_room =
+    record {
+      header = omega arith;
+      production_events = omega arith;
+      production_calls = omega arith;
+      events = omega arith;
+      calls = omega arith;
+      parameters = omega arith;
+    }
