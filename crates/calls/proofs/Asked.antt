@@ -125,6 +125,14 @@ module _ (l : List ℕ) where
   unfolding asking.parameter_count
   parameters_past_lem p c e = ap parameters_asked (call_there_lem p c ∙ ap call_there e)
 
+  pub parameter_below : (i k : ℕ) → whole l ≡ true → i < call_total l → k < call_parameters l i → first_parameter l i + k < 256
+  parameter_below i k w h q =
+      let f = facts_of_whole l w in
+      omega (arith, f.parameters_within i h, f.parameters)
+
+  pub called_below : (p c i : ℕ) → whole l ≡ true → place_of l p c ≡ Some i → i < 128
+  called_below p c i w e = omega (arith, place_below p c i w e, (facts_of_whole l w).calls)
+
   -- ---- Where
 
   pub name_here : (p c i : ℕ) → place_of l p c ≡ Some i → located_name (decode l) p c ≡ located (mark_entry l i) (name_entry l i)

@@ -38,7 +38,30 @@ module _ {A : Type 0} (f : ℕ → A) where
       let g : s + (i + 1) ≡ suc (s + i) = omega arith in
       rw (e, g)
 
+  pub run_start : (s n : ℕ) → run f (s + 0) (n - 0) ≡ run f s n
+  run_start s n =
+      let e : n - 0 ≡ n = omega arith in
+      let g : s + 0 ≡ s = omega arith in
+      rw (e, g)
+
 -- ---- Events
+
+module _ (f g : ℕ → KeptEvent) (a b n i : ℕ) where
+  pub same_next : i < n
+      → same_events (run f (a + i) (n - i)) (run g (b + i) (n - i))
+      ≡ (same_event (f (a + i)) (g (b + i)) && same_events (run f (a + (i + 1)) (n - (i + 1))) (run g (b + (i + 1)) (n - (i + 1))))
+  unfolding same_events
+  same_next h = rw (run_step f a n i h, run_step g b n i h)
+
+  pub same_done : n ≤ i → same_events (run f (a + i) (n - i)) (run g (b + i) (n - i)) ≡ true
+  unfolding same_events
+  same_done h = rw (run_done f (a + i) n i h, run_done g (b + i) n i h)
+
+pub and_no : (a b : Bool) → a ≡ false → (a && b) ≡ false
+and_no a b e = rw e
+
+pub and_yes : (a b : Bool) → a ≡ true → (a && b) ≡ b
+and_yes a b e = rw e
 
 -- what a test of each place says of two runs
 same_at : (f g : ℕ → KeptEvent) (a b s n : ℕ)

@@ -36,6 +36,9 @@ unfolding tally_all
 all_fewer Fits fewer t [] f = f
 all_fewer Fits fewer t (p ∷ ps) f = fewer t p (all_fewer Fits fewer (tally_one t p) ps f)
 
+pub all_below : (b : ℕ) (t : Tally) (ps : List Production) → TallyBelow b (tally_all t ps) → TallyBelow b t
+all_below b t ps r = all_fewer (λ (u : Tally). TallyBelow b u) (one_below b) t ps r
+
 pub all_room : (t : Tally) (ps : List Production) → TallyRoom (tally_all t ps) → TallyRoom t
 all_room t ps r = all_fewer (λ (u : Tally). TallyRoom u) one_room t ps r
 
