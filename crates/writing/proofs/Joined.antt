@@ -1,16 +1,16 @@
--- Laws of lists that grow at the end: of texts that are joined, of elements that pass a test.
+-- Laws of lists that grow at the end: of texts that are joined, of elements that pass a test, of tests of all.
 use Prim.Native.Nat.{ℕ, zero, suc, ◌+◌}
 use native.Mathlib.Omega.{arith}
 use native.Mathlib.Nat.{zero-add, add-zero, add-suc}
 use mathlib.Core.Path.{◌≡◌, refl, sym, ap, ◌∙◌}
 use mathlib.Core.List.{List, [], ◌∷◌, ◌++◌, append_assoc}
-use mathlib.Core.Bool.{Bool, true, false, cond}
+use mathlib.Core.Bool.{Bool, true, false, cond, ◌&&◌, and-true, and_assoc}
 use lib.Dec.{ltb}
 use borrow.Author.Tests.{lt-ltb}
 use lib.ListN.{length}
-use Rattle.words.specs.Runs.{run}
-use Rattle.words.proofs.RunLaws.{run_more, length_run}
-use Rattle.model.specs.Lists.{those}
+use Rattle.words.specs.Runs.{run, every}
+use Rattle.words.proofs.RunLaws.{run_last, run_more, length_run}
+use Rattle.model.specs.Lists.{all, those}
 use Rattle.model.specs.Canonical.{joined_by, each}
 use Rattle.writing.specs.Overlay.{separator}
 
@@ -62,3 +62,16 @@ module _ {A : Type 0} where
   pub those_more : (test : A → Bool) (xs : List A) (x : A) → those test (xs ++ (x ∷ [])) ≡ those test xs ++ cond (test x) (x ∷ []) []
   those_more test [] x = refl
   those_more test (y ∷ ys) x = cond_more (test y) y (those test ys) (cond (test x) (x ∷ []) []) (those test (ys ++ (x ∷ []))) (those_more test ys x)
+
+  pub all_more : (test : A → Bool) (xs : List A) (x : A) → all test (xs ++ (x ∷ [])) ≡ (all test xs && test x)
+  all_more test [] x = and-true (test x)
+  all_more test (y ∷ ys) x = rw (all_more test ys x) (sym (and_assoc (test y) (all test ys) (test x)))
+
+-- a test of every number below n
+pub all_every : (test : ℕ → Bool) (n : ℕ) → all test (run (λ i. i) 0 n) ≡ every test 0 n
+unfolding run every
+all_every test zero = refl
+all_every test (suc n) =
+    ap (all test) (run_last (λ (i : ℕ). i) 0 n)
+    ∙ all_more test (run (λ i. i) 0 n) (0 + n)
+    ∙ ap (λ (b : Bool). b && test (0 + n)) (all_every test n)

@@ -1,12 +1,17 @@
 -- Laws of putting texts into bytes: none, one byte, one text after another, into no bytes, and a text that fits.
-use Prim.Native.Nat.{ℕ, suc, ◌+◌, ◌≤◌}
+use Prim.Native.Nat.{ℕ, suc, ◌+◌, ◌≤◌, ◌<◌}
 use native.Mathlib.Omega.{arith}
 use native.Mathlib.Nat.{add-zero}
-use mathlib.Core.Path.{◌≡◌, refl, sym, ◌∙◌}
+use native.Mathlib.Numerals.{add-one}
+use mathlib.Core.Path.{◌≡◌, refl, sym, ap, ◌∙◌}
 use mathlib.Core.List.{List, [], ◌∷◌, ◌++◌}
-use lib.ListN.{length, drop, set, length-append}
-use lib.Seq.{sets, sets-eq, set_out}
+use lib.ListN.{length, take, drop, get_or, set, length-append, length-drop}
+use lib.Seq.{sets, sets-eq, length-sets, take-suc, get_or-drop, set_out}
 use Rattle.writing.specs.Overlay.{overlay, Put}
+
+pub length_overlay : (out : List ℕ) (at : ℕ) (text : List ℕ) → length (overlay out at text) ≡ length out
+unfolding overlay
+length_overlay out at text = length-sets out at text
 
 pub overlay_one : (out : List ℕ) (at b : ℕ) → overlay out at (b ∷ []) ≡ set out at b
 unfolding overlay
@@ -46,6 +51,19 @@ put_then {o} {p} {q} {i} {j} {k} {a} {b} x y =
       next = omega (arith, x.next, y.next, length-append a b);
     }
 
+pub put_length : {o p : List ℕ} {i j : ℕ} {a : List ℕ} → Put o p i j a → length p ≡ length o
+put_length {o} {p} {i} {j} {a} x = ap length x.bytes ∙ length_overlay o i a
+
 -- the same text by another name
 pub put_as : {o p : List ℕ} {i j : ℕ} {a b : List ℕ} → a ≡ b → Put o p i j a → Put o p i j b
 put_as e x = rw (← e) x
+
+-- one more element of a list
+take_more : (l : List ℕ) (i : ℕ) → i < length l → take (i + 1) l ≡ take i l ++ (get_or l i 0 ∷ [])
+take_more l i h = rw add-one (take-suc l i 0 h)
+
+-- one more byte of a part
+pub part_more : (l : List ℕ) (start i : ℕ) → start + i < length l → take (i + 1) (drop start l) ≡ take i (drop start l) ++ (get_or l (start + i) 0 ∷ [])
+part_more l start i h =
+    take_more (drop start l) i (simp length-drop (omega arith))
+    ∙ ap (λ (b : ℕ). take i (drop start l) ++ (b ∷ [])) (get_or-drop start l i 0)
