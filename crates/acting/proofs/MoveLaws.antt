@@ -248,6 +248,15 @@ module _ (t : Table) (setting : Setting) where
         by true q = kept_answer used (record { events = rest; selected = 0; is_open = false }) u refl refl q
         by false q = kept_answer to fresh (omega arith) (slice_empty to events) refl q
 
+    -- what is kept ends where they end
+    pub from_within : (from : ℕ) → used ≤ to → from ≡ cond (ltb at to) at (cond moving used to) → from ≤ to
+    from_within from u e = rw e (go (ltb at to) moving)
+      where
+        go : (a b : Bool) → cond a at (cond b used to) ≤ to
+        go true b = within
+        go false true = u
+        go false false = omega arith
+
     pub restart_is : (from : ℕ) (bytes : List ℕ) → used ≤ to → from ≡ cond (ltb at to) at (cond moving used to)
         → bytes ≡ in_slots (drop from (take to events))
         → answer_with found (to - from) 0 (ltb at to) bytes ≡ restarted t setting moving rest

@@ -39,7 +39,7 @@ use Rattle.follow.specs.Follow.{event_meets, detail_asked, bits_meet, element_of
 use Rattle.fields.specs.Fields.{flags_in, value_in}
 use Rattle.filter.specs.Filter.{sought_of, suits, code_seems, detail_seems, seems, may_begin, pairs, code_begins, PassersWithin}
 use Rattle.fields.proofs.TableFacts.{EntryFacts, TableFacts}
-use Rattle.follow.proofs.EventLaws.{meets_asked, meets_detail}
+use Rattle.follow.proofs.EventLaws.{meets_asked, detail_had}
 use Rattle.follow.proofs.FollowLaws.{target, Walks, walks_start, walks_other, walks_over, walks_no, walks_turn}
 
 -- ---- The code
@@ -147,7 +147,7 @@ module _ (setting : Setting) (x : Event) where
         go true q =
             let t = asked setting (event_entry l i) in
             asked_seems t.set t.clear (is_flag 1 (flags_in l i)) (value_in l i) (word_at l (lows_at + i)) (low_is l b i)
-            (meets_detail setting.keyboard t.set t.clear l i x q (bits_part setting l i x r m))
+            (detail_had setting.keyboard t.set t.clear l i x q (bits_part setting l i x r m))
         go false q = none_asked (word_at l (lows_at + i)) (f.bare q)
 
     -- ---- The event

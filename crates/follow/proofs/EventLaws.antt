@@ -57,12 +57,17 @@ detail_asked_lem setting e x r (Detail.Value value) =
 
 -- ---- The event
 
--- a detail that an event of a table asks for is had
-pub meets_detail : (map : List ℕ) (set clear : ℕ) (l : List ℕ) (i : ℕ) (x : Event) → is_flag 4 (flags_in l i) ≡ true
-    → bits_meet map set clear (event_entry l i) x ≡ true
-    → detail_asked map set clear (is_flag 1 (flags_in l i)) (value_in l i) x ≡ true
-unfolding bits_meet event_entry event_from_words flags_in value_in
-meets_detail map set clear l i x g m = grind (arith, rw g at m)
+module _ (map : List ℕ) (set clear : ℕ) (l : List ℕ) (i : ℕ) (x : Event) where
+  pub meets_detail : state_meets set clear (is_flag 2 (flags_in l i)) x.state ≡ true → is_flag 4 (flags_in l i) ≡ true
+      → detail_asked map set clear (is_flag 1 (flags_in l i)) (value_in l i) x ≡ bits_meet map set clear (event_entry l i) x
+  unfolding bits_meet event_entry event_from_words flags_in value_in
+  meets_detail q g = rw (q, g)
+
+  -- a detail that an event of a table asks for is had
+  pub detail_had : is_flag 4 (flags_in l i) ≡ true → bits_meet map set clear (event_entry l i) x ≡ true
+      → detail_asked map set clear (is_flag 1 (flags_in l i)) (value_in l i) x ≡ true
+  unfolding bits_meet event_entry event_from_words flags_in value_in
+  detail_had g m = grind (arith, rw g at m)
 
 clause_kept : (setting : Setting) (e : KeptEvent) → (asked setting e).clause ≡ e.clause
 unfolding asked

@@ -42,6 +42,9 @@ first_slots l n h =
 
 -- ---- One event
 
+pub event_path : (a b : Event) → a.code ≡ b.code → a.detail ≡ b.detail → a.time ≡ b.time → a.state ≡ b.state → a ≡ b
+event_path a b p q r s = λ i. record { code = p i; detail = q i; time = r i; state = s i }
+
 -- what is stored is read back
 read_stored : (x : Event) (rest : List ℕ) → event_from (event_bytes x ++ rest) ≡ x
 unfolding event_from event_bytes number_from

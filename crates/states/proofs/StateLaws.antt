@@ -5,8 +5,9 @@ use native.Mathlib.Nat.{zero-add}
 use borrow.Author.Tests.{eqb-true, eq-eqb}
 use Rattle.std.proofs.lemmas.Bool.Decides.{nat_tests}
 use mathlib.Core.Path.{◌≡◌, refl, sym, ap, ◌∙◌}
-use mathlib.Core.Bool.{Bool, true, false, false≢true}
+use mathlib.Core.Bool.{Bool, true, false, ◌&&◌, false≢true}
 use mathlib.Core.List.{List, [], ◌∷◌, ◌++◌}
+use lib.Dec.{eqb}
 use lib.ListN.{length, get_or, take}
 use lib.Seq.{get_or-take, length-take-le}
 use Rattle.words.specs.Runs.{every}
@@ -78,6 +79,15 @@ state_facts s q =
 pub marks_few : (kept selected : ℕ) (is_open : Bool) → marks_whole kept selected is_open ≡ true → kept ≤ 24
 unfolding marks_whole
 marks_few kept selected is_open q = grind (arith, nat_tests)
+
+-- marks that are not whole are those of no whole state
+pub marks_not : (s : State) → marks_whole s.kept s.selected s.«open» ≡ false → whole_state s ≡ false
+unfolding whole_state
+marks_not s q = rw q (no_part (eqb (length s.events) slot_bytes))
+  where
+    no_part : (a : Bool) → (a && false && slots_whole s.events s.kept && last_whole s.events s.kept s.«open») ≡ false
+    no_part true = refl
+    no_part false = refl
 
 pub facts_state : (s : State) → StateFacts s → whole_state s ≡ true
 unfolding whole_state marks_whole slots_whole last_whole used_whole byte_zero

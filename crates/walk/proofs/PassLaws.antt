@@ -279,6 +279,9 @@ module _ (setting : Setting) (l : List ℕ) (xs : List Event) where
     pub place : at ≡ first_event l p
     pub comes : passed (decode l) setting xs ≡ onward setting l xs p seen
 
+  pub passing_start : Passing false 0 0
+  passing_start = record { low = omega arith; place = sym (first_events l); comes = onward_start setting l xs }
+
   module _ (seen : Bool) (at p size : ℕ) (w : Passing seen at p) (h : p < production_total l) (e : size ≡ production_events l p) where
     abbrev walk : Followed
     walk = walked setting None None (expanded (run (event_entry l) at size)) xs
