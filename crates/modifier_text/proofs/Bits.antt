@@ -4,17 +4,21 @@ use native.Mathlib.Omega.{arith}
 use native.Mathlib.Nat.{zero-add}
 use mathlib.Core.Path.{◌≡◌, refl, sym, ap, ap₂, ◌∙◌}
 use mathlib.Core.List.{List, [], ◌∷◌, ◌++◌, append-nil}
-use mathlib.Core.Bool.{Bool, true, false, cond, true≢false, false≢true}
+use mathlib.Core.Bool.{Bool, true, false, cond, not, ◌&&◌, true≢false, false≢true}
 use lib.Dec.{ltb}
+use lib.Bits.{bit_or}
 use lib.ListN.{length, length-append}
 use borrow.Author.Tests.{lt-ltb, le-ltb}
 use Rattle.words.specs.Runs.{run}
 use Rattle.words.proofs.RunLaws.{run_more}
 use Rattle.model.specs.Lists.{those}
-use Rattle.model.specs.Canonical.{joined_by, each, bit_texts, names_texts, list_text, bit_text, is_written_bit}
+use Rattle.model.specs.Modifiers.{bit, asks_bit}
+use Rattle.model.specs.Named.{kept_as_written}
+use Rattle.model.specs.Canonical.{writes_bang, joined_by, each, bit_texts, names_texts, list_text, bit_text, is_written_bit}
 use Rattle.model.specs.declared.events.KeptEvent.{KeptEvent}
+use Rattle.modifiers.proofs.Digits.{bit_or_lem}
 use Rattle.writing.specs.Overlay.{separator}
-use Rattle.modifier_text.specs.Places.{order_at, has_place, place_text}
+use Rattle.modifier_text.specs.Places.{order_at, is_brief, listed_bits, has_place, place_text}
 use Rattle.name_text.specs.Forms.{has_form, form_text}
 use Rattle.name_text.proofs.Written.{names_written_lem}
 use Rattle.writing.proofs.Joined.{joined_more, each_more, length_each, those_more}
@@ -67,6 +71,16 @@ module _ (test : ℕ → Bool) (w : ℕ → List ℕ) where
       pub texts_same : texts_to j ≡ texts_to (j + 1)
       unfolding texts_to
       texts_same = ap (λ (l : List ℕ). joined_by (32 ∷ []) (each w l)) no_more
+
+-- ---- The bits that are listed
+
+pub listed_bit : (e : KeptEvent) (k : ℕ) → bit k (listed_bits e) ≡ is_written_bit e k
+unfolding listed_bits is_brief
+listed_bit e k = by (writes_bang e && not (kept_as_written e))
+  where
+    by : (brief : Bool) → bit k (cond brief e.set (bit_or e.set e.clear)) ≡ cond brief (bit k e.set) (asks_bit e k)
+    by true = refl
+    by false = bit_or_lem k e.set e.clear
 
 -- ---- All places: bits, then names
 
