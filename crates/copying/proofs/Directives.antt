@@ -1,13 +1,15 @@
 -- What a merge keeps, copied in order, is what its directive says.
-use Prim.Native.Nat.{ℕ}
+use Prim.Native.Nat.{ℕ, ◌≤◌}
 use mathlib.Core.Path.{◌≡◌, refl, ◌∙◌}
 use mathlib.Core.Bool.{Bool, true, false}
 use mathlib.Core.List.{List, [], ◌∷◌, ◌++◌}
 use Rattle.model.specs.Tables.{Production}
 use Rattle.model.specs.declared.events.Directive.{Directive}
+use Rattle.tables.specs.Layout.{table_length}
 use Rattle.tables.specs.Reading.{production_total}
 use Rattle.tally.specs.Kept.{each_marked, kept_from, kept_by}
-use Rattle.tally.specs.Counting.{no_tally, tally_one, tally_all, put_kept}
+use Rattle.tally.specs.Counting.{no_tally, tally_one, tally_all, put_kept, TallyRoom}
+use Rattle.tally.specs.Laws.{one_room}
 use Rattle.tally.specs.declared.count.Tally.{Tally}
 use Rattle.copying.specs.Copying.{put_one, put_all, put_by}
 
@@ -29,3 +31,11 @@ kept_put Directive.Override old new out =
     all_more true out no_tally (kept_from new 0 old 0) _ ∙ all_last false _ _ (kept_from old 0 new (production_total new))
 kept_put Directive.Augment old new out =
     all_more false out no_tally (kept_from old 0 new 0) _ ∙ all_last true _ _ (kept_from new 0 old (production_total old))
+
+-- ---- Room, as a copy asks for it
+
+abbrev pub fits : ℕ → Tally → Type 0
+fits n t = (table_length ≤ n) × TallyRoom t
+
+pub fits_fewer : (n : ℕ) (t : Tally) (p : Production) → fits n (tally_one t p) → fits n t
+fits_fewer n t p f = (f.0, one_room t p f.1)

@@ -1,17 +1,17 @@
 // Productions copied from a table, after those that stand in the output.
 ghost use Rattle.std.specs.Prelude.{◌≡◌, true, ◌+◌, ◌≤◌, length};
 ghost use Rattle.words.specs.Runs.{run};
-ghost use Rattle.tables.specs.Reading.{call_total, parameter_total, event_entry, call_entry, parameter_entry};
+ghost use Rattle.tables.specs.Reading.{call_total, parameter_total, event_entry, call_entry, parameter_entry, directive_in};
 ghost use Rattle.tables.specs.Writing.{put_event, put_parameter};
 ghost use Rattle.tables.specs.Whole.{whole};
 ghost use Rattle.tally.specs.Counting.{tally_merged, TallyRoom};
 ghost use Rattle.tally.specs.Laws.{one_room};
-ghost use Rattle.copying.specs.Copying.{puts, put_call_in, put_one, put_merged};
+ghost use Rattle.copying.specs.Copying.{puts, put_call_in, put_one, put_by, put_merged};
 ghost use Rattle.tables.specs.Layout.{table_length};
 
 use model::events::Directive;
 use tally::count::{Tally, extent_of, tally_one};
-use tally::kept::{Step, take_merged};
+use tally::kept::{Step, take_kept};
 
 // The entries of a production, each kind by a `for` of its own: a loop for all three would be given the body as a closure, and
 // `each(n, |i| ..)` says no more than `for i in 0..n { .. }`.
@@ -67,6 +67,28 @@ impl Step for Copying {
     ghost fewer = { λ n t p f. (f.0, one_room t p f.1) };
 }
 
+// The productions of a merge, by the new table's directive. tally::kept::take_merged has the same order for any step; it is told here
+// once more, so that a copy in another order is a wrong program of this crate.
+fn copy_merged(old: &[u8], new: &[u8], out: &mut [u8]) -> Tally
+    requires { ((whole old.now ≡ true) × (whole new.now ≡ true)) × ((table_length ≤ length out.old) × TallyRoom (tally_merged old.now new.now)) }
+    ensures { (result ≡ tally_merged old.now new.now) × (out.new ≡ put_by (directive_in new.now) old.now new.now out.old) }
+{
+    let none = Tally::default();
+    match tables::read::directive(new) {
+        Directive::Replace => take_kept::<Copying>(new, old, 0, true, out, none),
+        Directive::Override => {
+            let t = take_kept::<Copying>(new, old, 0, true, out, none);
+            let n = tables::read::production_count(new);
+            take_kept::<Copying>(old, new, n, false, out, t)
+        }
+        Directive::Augment => {
+            let t = take_kept::<Copying>(old, new, 0, false, out, none);
+            let n = tables::read::production_count(old);
+            take_kept::<Copying>(new, old, n, true, out, t)
+        }
+    }
+}
+
 // The whole merge, into a cleared table.
 pub fn put_merged(old: &[u8], new: &[u8], out: &mut [u8])
     requires { ((whole old.now ≡ true) × (whole new.now ≡ true)) × ((table_length ≤ length out.old) × TallyRoom (tally_merged old.now new.now)) }
@@ -74,7 +96,7 @@ pub fn put_merged(old: &[u8], new: &[u8], out: &mut [u8])
 {
     let first = tables::read::first_length(old);
     let second = tables::read::first_length(new);
-    let t = take_merged::<Copying>(old, new, out);
+    let t = copy_merged(old, new, out);
     tables::write::put_texts(out, Directive::Replace, true, first, second);
     tables::write::put_counts(out, t.productions, t.events, t.calls, t.parameters);
 }

@@ -28,7 +28,7 @@ pub trait Step {
 }
 
 // The productions of `l` whose events equal none of the first n of `other`, after others.
-fn take_kept<S: Step>(
+pub fn take_kept<S: Step>(
     l: &[u8],
     other: &[u8],
     n: usize,

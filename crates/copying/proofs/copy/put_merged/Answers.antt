@@ -3,7 +3,6 @@ use borrow.Author.Rules.{rules}
 use native.Mathlib.Omega.{arith}
 use Rattle.tally.proofs.WholeFacts as facts
 use Rattle.copying.specs.Copying.{put_merged}
-use Rattle.copying.proofs.Directives.{kept_put}
 use Rattle.copying.proofs.copy.put_merged.Goals as goal
 
 pub first_length-first-requires : goal.first_length-first-requires
@@ -20,4 +19,4 @@ put_texts-requires c =
 
 pub returns : goal.returns
 unfolding put_merged
-returns c = rw (c.put_counts.ensures, c.put_texts.ensures, c.take_merged-t.ensures.1, kept_put, c.take_merged-t.ensures.0, c.first_length-second.ensures, c.first_length-first.ensures)
+returns c = rw (c.put_counts.ensures, c.put_texts.ensures, c.copy_merged-t.ensures.1, c.copy_merged-t.ensures.0, c.first_length-second.ensures, c.first_length-first.ensures)
