@@ -117,8 +117,11 @@ pub fn pair_matches(test: KeyTest, pair: Pair, state: u16) -> bool
 {
     let shift = modifiers::bit(0, state);
     let lock = modifiers::bit(1, state);
-    let cares_shift = test.colon | modifiers::bit(0, test.set) | modifiers::bit(0, test.clear);
-    let cares_lock = test.colon | modifiers::bit(1, test.set) | modifiers::bit(1, test.clear);
+    if test.colon {
+        return keysym_of(pair, shift, lock) == test.detail;
+    }
+    let cares_shift = modifiers::bit(0, test.set) | modifiers::bit(0, test.clear);
+    let cares_lock = modifiers::bit(1, test.set) | modifiers::bit(1, test.clear);
     under_either(
         cares_shift,
         shift,
