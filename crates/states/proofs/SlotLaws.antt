@@ -126,6 +126,29 @@ stores l s t j m n x h p q e f =
     = put_part (sets w (8 * j + 2) s) t (8 * j + 4) n (rw f (sym q)) (omega arith) in
     rw (one, two, e, f, a, b, c)
 
+-- the eight stores
+pub eight_stores : (l : List ℕ) (j : ℕ) (x : Event)
+    → set
+    (set
+    (set
+    (set
+    (set (set (set (set l (8 * j) x.code) (8 * j + 1) x.detail) (8 * j + 2) (x.state % 256)) (8 * j + 3) (x.state / 256))
+    (8 * j + 4) (x.time % 256))
+    (8 * j + 5) (x.time / 256 % 256))
+    (8 * j + 6) (x.time / 65536 % 256))
+    (8 * j + 7) (x.time / 16777216)
+    ≡ put_slot l j x
+unfolding put_slot event_bytes
+eight_stores l j x =
+    let a : 8 * j + 1 ≡ suc (8 * j) = omega arith in
+    let b : 8 * j + 2 ≡ suc (suc (8 * j)) = omega arith in
+    let c : 8 * j + 3 ≡ suc (suc (suc (8 * j))) = omega arith in
+    let d : 8 * j + 4 ≡ suc (suc (suc (suc (8 * j)))) = omega arith in
+    let e : 8 * j + 5 ≡ suc (suc (suc (suc (suc (8 * j))))) = omega arith in
+    let f : 8 * j + 6 ≡ suc (suc (suc (suc (suc (suc (8 * j)))))) = omega arith in
+    let g : 8 * j + 7 ≡ suc (suc (suc (suc (suc (suc (suc (8 * j))))))) = omega arith in
+    rw (a, b, c, d, e, f, g)
+
 -- ---- Slots tested one after the other
 
 pub used_none : (l : List ℕ) → every (used_whole l) 0 0 ≡ true

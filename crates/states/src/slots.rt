@@ -40,6 +40,12 @@ pub fn put_event(out: &mut [u8], j: usize, x: Event)
     let at = 8 * j;
     out[at] = x.code;
     out[at + 1] = x.detail;
-    out[at + 2..at + 4].copy_from_slice(&x.state.to_le_bytes());
-    out[at + 4..at + 8].copy_from_slice(&x.time.to_le_bytes());
+    let [low, high] = x.state.to_le_bytes();
+    out[at + 2] = low;
+    out[at + 3] = high;
+    let [first, second, third, fourth] = x.time.to_le_bytes();
+    out[at + 4] = first;
+    out[at + 5] = second;
+    out[at + 6] = third;
+    out[at + 7] = fourth;
 }
