@@ -10,8 +10,7 @@ use native.Mathlib.Numerals.{add-one}
 use Rattle.std.proofs.lemmas.List.Folds.{list_all_more}
 use lib.Dec.{eqb}
 use lib.ListN.{length, get_or, set, take, drop, length-set, length-append, length-drop, take-append-drop}
-use lib.Seq.{take_at, drop_at, take-add, take-append-le, ext_get_or, get_or-drop, get_or-take, length-take-le, drop-append-add, drop-drop, sets, sets-eq, length-sets, get_or-append-add}
-use borrow.Rule.Slice.PartMut.{put_mid}
+use lib.Seq.{take_at, drop_at, take-add, take-append-le, ext_get_or, get_or-drop, get_or-take, length-take-le, drop-append-add, sets, sets-eq, length-sets, get_or-append-add}
 use Rattle.words.specs.Words.{word_at, zeros}
 use Rattle.words.specs.Runs.{run, every}
 use Rattle.std.specs.List.{list_all}
@@ -103,31 +102,8 @@ slot_code l j =
     let z : 8 * j + 0 ≡ 8 * j = omega arith in
     rw (get_or-drop (8 * j) l 0 0, z)
 
--- a part of bytes stored
-put_part : (l ys : List ℕ) (a n : ℕ) → length ys ≡ n → a + n ≤ length l → put_mid a n l ys ≡ sets l a ys
-put_part l ys a n e h =
-    let b : a + length ys ≤ length l = omega arith in
-    rw (← e, drop-drop) (sym (sets-eq ys l a b ∙ append_assoc (take a l) ys (drop (a + length ys) l)))
-
--- the bytes of an event: code and detail, and the parts of the state and of the time
-pub stores : (l s t : List ℕ) (j m n : ℕ) (x : Event) → 8 * j + 8 ≤ length l → m ≡ 2 → n ≡ 4
-    → s ≡ x.state % 256 ∷ x.state / 256 ∷ [] → t ≡ x.time % 256 ∷ x.time / 256 % 256 ∷ x.time / 65536 % 256 ∷ x.time / 16777216 ∷ []
-    → put_mid (8 * j + 4) n (put_mid (8 * j + 2) m (set (set l (8 * j) x.code) (8 * j + 1) x.detail) s) t ≡ put_slot l j x
-unfolding put_slot event_bytes
-stores l s t j m n x h p q e f =
-    let w : List ℕ = set (set l (8 * j) x.code) (8 * j + 1) x.detail in
-    let k : length w ≡ length l = simp length-set in
-    let o = length-sets w (8 * j + 2) s in
-    let a : 8 * j + 1 ≡ suc (8 * j) = omega arith in
-    let b : 8 * j + 2 ≡ suc (suc (8 * j)) = omega arith in
-    let c : 8 * j + 4 ≡ suc (suc (suc (suc (8 * j)))) = omega arith in
-    let one : put_mid (8 * j + 2) m w s ≡ sets w (8 * j + 2) s = put_part w s (8 * j + 2) m (rw e (sym p)) (omega arith) in
-    let two : put_mid (8 * j + 4) n (sets w (8 * j + 2) s) t ≡ sets (sets w (8 * j + 2) s) (8 * j + 4) t
-    = put_part (sets w (8 * j + 2) s) t (8 * j + 4) n (rw f (sym q)) (omega arith) in
-    rw (one, two, e, f, a, b, c)
-
 -- the eight stores
-pub eight_stores : (l : List ℕ) (j : ℕ) (x : Event)
+pub stores : (l : List ℕ) (j : ℕ) (x : Event)
     → set
     (set
     (set
@@ -139,7 +115,7 @@ pub eight_stores : (l : List ℕ) (j : ℕ) (x : Event)
     (8 * j + 7) (x.time / 16777216)
     ≡ put_slot l j x
 unfolding put_slot event_bytes
-eight_stores l j x =
+stores l j x =
     let a : 8 * j + 1 ≡ suc (8 * j) = omega arith in
     let b : 8 * j + 2 ≡ suc (suc (8 * j)) = omega arith in
     let c : 8 * j + 3 ≡ suc (suc (suc (8 * j))) = omega arith in
