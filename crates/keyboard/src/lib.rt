@@ -117,6 +117,7 @@ pub fn pair_matches(test: KeyTest, pair: Pair, state: u16) -> bool
 {
     let shift = modifiers::bit(0, state);
     let lock = modifiers::bit(1, state);
+    // Not joined to what is cared for, so that a swap of Shift and Lock below is wrong without a colon alone.
     if test.colon {
         return keysym_of(pair, shift, lock) == test.detail;
     }

@@ -73,7 +73,7 @@ fn listed_bits(e: KeptEvent) -> u16
 }
 
 // The texts of a list have places: 0..12 are those of the bits, in the order of writing, 13..28 those of the names' forms. The bits
-// that are listed are joined once a list: to test both masks at each place took a third longer.
+// that are listed are joined once a list: with both masks tested at each place, a text of lists took a fifth longer to measure.
 #[tactic(auto, using(crate::proofs::Bits::listed_bit), unfolding(crate::specs::Places::has_place))]
 fn has_place(e: KeptEvent, bits: u16, j: u32) -> bool
     requires { (j < 29) × (bits ≡ listed_bits e) }
